@@ -1,0 +1,9 @@
+pub mod RoomLaws
+pub mod StoredLaws
+pub mod ContainerLaws
+pub mod Steps
+pub mod Runs
+pub mod Rearranging
+pub mod Combining
+pub mod InUse
+pub mod Skipping

@@ -1,0 +1,10 @@
+pub mod Words
+pub mod Room
+pub mod Reading
+pub mod Change
+pub mod Commands
+pub mod Combine
+pub mod Keys
+pub mod Plain
+pub mod Good
+pub mod Demands

@@ -1,0 +1,9 @@
+pub mod Refusals
+pub mod Answers
+pub mod Make
+pub mod Check
+pub mod List
+pub mod AllMembers
+pub mod Walk
+pub mod Combine
+pub mod Keys

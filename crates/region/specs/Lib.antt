@@ -1,0 +1,12 @@
+pub mod Numbers
+pub mod Geometry
+pub mod Bits
+pub mod Areas
+pub mod Fresh
+pub mod Nodes
+pub mod Tries
+pub mod Seen
+pub mod Read
+pub mod WellFormed
+pub mod Linked
+pub mod Alike
