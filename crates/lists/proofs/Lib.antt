@@ -1,2 +1,6 @@
 pub mod Laws
 pub mod Sums
+pub mod Blocks
+pub mod Each
+pub mod Counts
+pub mod Same

@@ -12,8 +12,8 @@ one true = 1
 one false = 0
 
 -- lo ≤ x ≤ hi
-abbrev pub within : ℕ → ℕ → ℕ → Bool
-within lo hi x = leb lo x && leb x hi
+abbrev pub between : ℕ → ℕ → ℕ → Bool
+between lo hi x = leb lo x && leb x hi
 
 -- whether x stands in the list
 abbrev pub mem : ℕ → List ℕ → Bool
@@ -100,6 +100,6 @@ abbrev pub SameMembers : List ℕ → List ℕ → Type 0
 SameMembers xs ys = (x : ℕ) → mem x xs ≡ mem x ys
 
 -- something holds of each entry
-abbrev pub Each : {A : Type 0} → (A → Type 0) → List A → Type 0
-Each G [] = Unit {0}
-Each G (x ∷ xs) = G x × Each G xs
+abbrev pub Every : {A : Type 0} → (A → Type 0) → List A → Type 0
+Every G [] = Unit {0}
+Every G (x ∷ xs) = G x × Every G xs

@@ -10,23 +10,32 @@ use lib.Pow.{pow-add}
 use lib.Dec.{eqb, ltb, leb}
 use lib.ListN.{length}
 use borrow.Author.Tests.{eqb-true, eqb-false, eq-eqb, ne-eqb, lt-ltb, le-ltb, le-leb, lt-leb, ltb-true, ltb-false, leb-true, leb-false}
-use Rattle.lists.specs.Lists.{Distinct, Each, SameMembers, Within, keep, mem, one, upFrom}
+use Rattle.lists.specs.Lists.{Distinct, Every, SameMembers, Within, keep, mem, one, upFrom, sorted, different}
 use Rattle.model.specs.Combine.{Op, chosen, combine, fromA, fromB, inserting}
 use Rattle.model.specs.Combine.Op.{Or, And, Minus, Xor}
 use Rattle.model.specs.Commands.{Code, Command, Run, run}
 use Rattle.model.specs.Commands.Code.{Insert, Lookup, Remove}
-use Rattle.model.specs.Demands.{AsPlain, Combined, InRange, Kept, carried, inserted}
+use Rattle.model.specs.Demands.{AsPlain, CombinedAsPlain, WalkAsPlain, WordsInRange, Kept, carried, inserted}
 use Rattle.model.specs.Good.{Good, GoodContainer}
-use Rattle.model.specs.Plain.{PlainSet, joins, plainCombine, plainEnd, plainStep}
+use Rattle.model.specs.Plain.{PlainSet, plainOp, plainCombine, plainEnd, plainStep}
 use Rattle.model.specs.Reading.{Container, Reading, count, empty, has, prefixesOf, under, walk}
 use Rattle.model.specs.Room.{containersNeeded, fits, nodesNeeded}
 use Rattle.model.specs.Words.{joined, prefixOf, suffixOf}
-use Rattle.lists.proofs.Laws.{by-test, or-false, or-left, or-right, or-swap, or-cases, and-both, both-and, iff-eq, not-true-false, eqb-self, eqb-sym, mem-append, mem-keep}
+use Rattle.lists.proofs.Laws.{by-test, or-false, or-left, or-right, or-swap, or-cases, and-both, both-and, iff-eq, not-true-false, eqb-self, eqb-sym, mem-append, mem-keep, mem-sorted, distinct-sorted, length-same}
 use Rattle.model.proofs.RoomLaws.{fits-same}
 use Rattle.model.proofs.ContainerLaws.{joined-parts, suffix-lt, under-none}
-use Rattle.model.proofs.Steps.{has-is}
+use Rattle.model.proofs.Steps.{has-is, walk-distinct}
 use Rattle.model.proofs.Runs.{as-plain, good-run}
 use Rattle.model.proofs.Rearranging.{no-stop}
+
+-- a list without repetition is as long as the different values of any list with its members
+different-of : (xs ys : List ℕ) → Distinct xs → SameMembers xs ys → length xs ≡ different ys
+different-of xs ys d h = length-same xs (sorted ys) d (distinct-sorted ys) (λ z. h z ∙ sym (mem-sorted z ys))
+
+-- the walk of a good reading
+pub walk-as-plain : (r : Reading) → Good r → WalkAsPlain r
+unfolding count
+walk-as-plain r g = record { once = walk-distinct r g; counted = different-of (walk r) (walk r) (walk-distinct r g) (λ z. refl) }
 
 -- A fresh reading
 
@@ -64,7 +73,7 @@ good-empty p s c n = record {
 
 -- Members are words of P + S bits
 
-each-inside : (P S p : ℕ) (cs : List Container) → Each (GoodContainer P S) cs → mem p (prefixesOf cs) ≡ true → p < 2 ^ P
+each-inside : (P S p : ℕ) (cs : List Container) → Every (GoodContainer P S) cs → mem p (prefixesOf cs) ≡ true → p < 2 ^ P
 each-inside P S p [] g m = absurd (false≢true m)
 each-inside P S p (c ∷ cs) g m = or-cases (eqb p (c .prefix)) (mem p (prefixesOf cs)) m (λ e. subst (λ (k : ℕ). k < 2 ^ P) (sym (eqb-true p (c .prefix) e)) (g .0 .inside)) (each-inside P S p cs (g .1))
 
@@ -79,7 +88,7 @@ member-lt r g w h =
 
 -- Inserting a list of words
 
-in-range-inserting : (bits : ℕ) (ws : List ℕ) → ((w : ℕ) → mem w ws ≡ true → w < 2 ^ bits) → InRange bits (inserting ws)
+in-range-inserting : (bits : ℕ) (ws : List ℕ) → ((w : ℕ) → mem w ws ≡ true → w < 2 ^ bits) → WordsInRange bits (inserting ws)
 in-range-inserting bits [] h = tt
 in-range-inserting bits (w ∷ ws) h = (h w (or-left (eqb w w) (mem w ws) (eqb-self w)), in-range-inserting bits ws (λ v m. h v (or-right (eqb v w) (mem v ws) m)))
 
@@ -110,7 +119,7 @@ module _ (o : Op) (a b : Reading) (c n : ℕ) (g : Good a) (h : Good b) (sameP :
       ∙ ap (λ (x : Bool). (fromA o (has b w) && has a w) || x) (mem-keep (λ v. fromB o (has a v)) w (walk b))
       ∙ by-op o (has a w) (has b w)
     where
-      by-op : (o : Op) (x y : Bool) → ((fromA o y && x) || (fromB o x && y)) ≡ joins o x y
+      by-op : (o : Op) (x y : Bool) → ((fromA o y && x) || (fromB o x && y)) ≡ plainOp o x y
       by-op Or x y = refl
       by-op And true true = refl
       by-op And true false = refl
@@ -128,7 +137,7 @@ module _ (o : Op) (a b : Reading) (c n : ℕ) (g : Good a) (h : Good b) (sameP :
   words-lt : (w : ℕ) → mem w ws ≡ true → w < 2 ^ (a .P + a .S)
   words-lt w m = of (has a w) refl (has b w) refl
     where
-      neither : (o : Op) → joins o false false ≡ false
+      neither : (o : Op) → plainOp o false false ≡ false
       neither Or = refl
       neither And = refl
       neither Minus = refl
@@ -174,12 +183,13 @@ module _ (o : Op) (a b : Reading) (c n : ℕ) (g : Good a) (h : Good b) (sameP :
   refused-is false e = rw (fits-done e)
 
   -- demand 2 for combinations
-  pub combined : Combined o a b c n (combine o a b c n)
+  pub combined : CombinedAsPlain o a b c n (combine o a b c n)
   unfolding combine
   combined = record {
     result = chosen-is;
     stopped = refused-is (done .stopped) refl;
     members = λ e w. members-done e w ∙ chosen-is w;
+    counted = λ e. unfold count in different-of (walk (done .reading)) ws (walk-distinct (done .reading) good-done) (unfold has in members-done e);
   }
 
   pub good-combined : Good (combine o a b c n .reading)

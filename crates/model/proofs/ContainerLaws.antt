@@ -12,12 +12,13 @@ use lib.Pow.{pow-pos}
 use lib.Dec.{eqb, ltb, leb}
 use lib.ListN.{length, length-append, length-map}
 use borrow.Author.Tests.{ltb-true, ltb-false, eqb-true, eqb-false, eq-eqb, ne-eqb, lt-ltb, le-ltb}
-use Rattle.lists.specs.Lists.{Ascending, Distinct, Each, Over, SameMembers, Within, keep, mem, put, sorted, without}
+use Rattle.lists.specs.Lists.{Ascending, Distinct, Every, Over, SameMembers, Within, keep, mem, put, sorted, without}
 use Rattle.model.specs.Change.{dropped, isNone, placed, slotOf}
 use Rattle.model.specs.Good.{GoodContainer, GoodSuffixes}
 use Rattle.model.specs.Reading.{Container, containerWords, prefixesOf, slotsOf, under, wordsOf}
+use Rattle.model.specs.Room.{prefixes}
 use Rattle.model.specs.Words.{joined, prefixOf, suffixOf}
-use Rattle.lists.proofs.Laws.{or-false, or-swap, or-same, or-left, or-right, or-cases, or-none, none-or, and-both, both-and, iff-eq, not-true-false, by-test, eqb-self, eqb-sym, mem-append, mem-map, mem-put, mem-without, Source, source, over-not-mem, over-mem, ascending-put, ascending-unique, length-same, distinct-keep, distinct-append, distinct-map, ascending-distinct}
+use Rattle.lists.proofs.Laws.{or-false, or-swap, or-same, or-left, or-right, or-cases, or-none, none-or, and-both, both-and, iff-eq, not-true-false, by-test, eqb-self, eqb-sym, mem-append, mem-map, mem-put, mem-sorted, mem-without, Source, source, over-not-mem, over-mem, ascending-put, ascending-sorted, ascending-unique, length-same, distinct-keep, distinct-append, distinct-map, ascending-distinct}
 
 -- Words and their parts
 
@@ -61,11 +62,11 @@ good-none : (S : ℕ) → GoodSuffixes S []
 good-none S = record { below = λ s m. absurd (false≢true m); distinct = tt; ordered = λ e. tt }
 
 module _ (P S : ℕ) where
-  pub each-under : (p : ℕ) (cs : List Container) → Each (GoodContainer P S) cs → GoodSuffixes S (under p cs)
+  pub each-under : (p : ℕ) (cs : List Container) → Every (GoodContainer P S) cs → GoodSuffixes S (under p cs)
   each-under p [] g = good-none S
   each-under p (c ∷ cs) g = by-test (eqb p (c .prefix)) (λ e. rw e (g .0 .good)) (λ e. rw e (each-under p cs (g .1)))
 
-  pub under-some : (p : ℕ) (cs : List Container) → Each (GoodContainer P S) cs → mem p (prefixesOf cs) ≡ true → 0 < length (under p cs)
+  pub under-some : (p : ℕ) (cs : List Container) → Every (GoodContainer P S) cs → mem p (prefixesOf cs) ≡ true → 0 < length (under p cs)
   under-some p [] g m = absurd (false≢true m)
   under-some p (c ∷ cs) g m = go (eqb p (c .prefix)) refl (under-some p cs (g .1))
     where
@@ -74,7 +75,7 @@ module _ (P S : ℕ) where
       go false e ih = rw e (ih (rw e at m))
 
   -- a word is met in the walk exactly when its suffix lies under its prefix
-  pub mem-wordsOf : (w : ℕ) (cs : List Container) → Ascending (prefixesOf cs) → Each (GoodContainer P S) cs → mem w (wordsOf S cs) ≡ mem (suffixOf S w) (under (prefixOf S w) cs)
+  pub mem-wordsOf : (w : ℕ) (cs : List Container) → Ascending (prefixesOf cs) → Every (GoodContainer P S) cs → mem w (wordsOf S cs) ≡ mem (suffixOf S w) (under (prefixOf S w) cs)
   mem-wordsOf w [] a g = refl
   mem-wordsOf w (c ∷ cs) a g =
       mem-append w (containerWords S c) (wordsOf S cs) ∙ ap (λ (b : Bool). b || mem w (wordsOf S cs)) (mem-containerWords S (c .prefix) w (c .suffixes) (g .0 .good .below)) ∙ go (ℕ-discrete (prefixOf S w) (c .prefix)) (mem-wordsOf w cs (a .1) (g .1))
@@ -87,7 +88,7 @@ module _ (P S : ℕ) where
       go (no h) ih = rw (ne-eqb (prefixOf S w) (c .prefix) h) ih
 
   -- the walk meets no word twice
-  pub distinct-wordsOf : (cs : List Container) → Ascending (prefixesOf cs) → Each (GoodContainer P S) cs → Distinct (wordsOf S cs)
+  pub distinct-wordsOf : (cs : List Container) → Ascending (prefixesOf cs) → Every (GoodContainer P S) cs → Distinct (wordsOf S cs)
   distinct-wordsOf [] a g = tt
   distinct-wordsOf (c ∷ cs) a g =
       distinct-append (containerWords S c) (wordsOf S cs) (distinct-map (joined S (c .prefix)) (c .suffixes) inj (g .0 .good .distinct)) (distinct-wordsOf cs (a .1) (g .1)) apart
@@ -125,11 +126,11 @@ module _ (p t : ℕ) (ss : List ℕ) where
       go false e (no h) true k ih = rw (e, ne-eqb p (c .prefix) h, k, ne-eqb q (c .prefix) (λ j. h (sym (eqb-true q p k) ∙ j))) (ih ∙ rw k)
       go false e (no h) false k ih = rw (e, ne-eqb p (c .prefix) h, k) (ap (cond (eqb q (c .prefix)) (c .suffixes)) (ih ∙ rw k))
 
-  pub each-placed : (G : Container → Type 0) (cs : List Container) → ((u : ℕ) → G (record { prefix = p; slot = u; suffixes = ss })) → Each G cs → Each G (placed p t ss cs)
+  pub each-placed : (G : Container → Type 0) (cs : List Container) → ((u : ℕ) → G (record { prefix = p; slot = u; suffixes = ss })) → Every G cs → Every G (placed p t ss cs)
   each-placed G [] n g = (n t, tt)
   each-placed G (c ∷ cs) n g = go (ltb p (c .prefix)) refl (eqb p (c .prefix)) refl (each-placed G cs n (g .1))
     where
-      go : (a : Bool) → ltb p (c .prefix) ≡ a → (b : Bool) → eqb p (c .prefix) ≡ b → Each G (placed p t ss cs) → Each G (placed p t ss (c ∷ cs))
+      go : (a : Bool) → ltb p (c .prefix) ≡ a → (b : Bool) → eqb p (c .prefix) ≡ b → Every G (placed p t ss cs) → Every G (placed p t ss (c ∷ cs))
       go true e b f ih = rw e (n t, g)
       go false e true f ih = rw (e, f) (n (c .slot), g .1)
       go false e false f ih = rw (e, f) (g .0, ih)
@@ -152,7 +153,7 @@ under-dropped p q (c ∷ cs) = go (ℕ-discrete p (c .prefix)) (eqb q p) refl (u
     go (no h) true k ih = rw (ne-eqb p (c .prefix) h, k, ne-eqb q (c .prefix) (λ j. h (sym (eqb-true q p k) ∙ j))) (ih ∙ rw k)
     go (no h) false k ih = rw (ne-eqb p (c .prefix) h, k) (ap (cond (eqb q (c .prefix)) (c .suffixes)) (ih ∙ rw k))
 
-pub each-dropped : (G : Container → Type 0) (p : ℕ) (cs : List Container) → Each G cs → Each G (dropped p cs)
+pub each-dropped : (G : Container → Type 0) (p : ℕ) (cs : List Container) → Every G cs → Every G (dropped p cs)
 each-dropped G p [] g = tt
 each-dropped G p (c ∷ cs) g = by-test (eqb p (c .prefix)) (λ e. rw e (each-dropped G p cs (g .1))) (λ e. rw e (g .0, each-dropped G p cs (g .1)))
 
@@ -229,7 +230,7 @@ first [] l = absurd (omega arith)
 first (x ∷ xs) l = record { entry = x; there = or-left (eqb x x) (mem x xs) (eqb-self x) }
 
 -- the prefixes of the walk are those of the containers
-pub mem-prefixes : (P S q : ℕ) (cs : List Container) → Ascending (prefixesOf cs) → Each (GoodContainer P S) cs → mem q (map (prefixOf S) (wordsOf S cs)) ≡ mem q (prefixesOf cs)
+mem-prefixes : (P S q : ℕ) (cs : List Container) → Ascending (prefixesOf cs) → Every (GoodContainer P S) cs → mem q (map (prefixOf S) (wordsOf S cs)) ≡ mem q (prefixesOf cs)
 mem-prefixes P S q cs a g = iff-eq (mem q (map (prefixOf S) (wordsOf S cs))) (mem q (prefixesOf cs)) forth back
   where
     forth : mem q (map (prefixOf S) (wordsOf S cs)) ≡ true → mem q (prefixesOf cs) ≡ true
@@ -247,3 +248,9 @@ mem-prefixes P S q cs a g = iff-eq (mem q (map (prefixOf S) (wordsOf S cs))) (me
         let h : suffixOf S w ≡ f .entry = suffix-joined S q (f .entry) l in
         let i : mem (suffixOf S w) (under (prefixOf S w) cs) ≡ true = rw (e, h) (f .there) in
         subst (λ (k : ℕ). mem k (map (prefixOf S) (wordsOf S cs)) ≡ true) e (mem-map (prefixOf S) w (wordsOf S cs) (mem-wordsOf P S w cs a g ∙ i))
+
+-- and so are the different ones, ascending
+pub prefixes-words : (P S : ℕ) (cs : List Container) → Ascending (prefixesOf cs) → Every (GoodContainer P S) cs → prefixes S (wordsOf S cs) ≡ prefixesOf cs
+prefixes-words P S cs a g =
+    let ps = map (prefixOf S) (wordsOf S cs) in
+    ascending-unique (sorted ps) (prefixesOf cs) (ascending-sorted ps) a (λ q. mem-sorted q ps ∙ mem-prefixes P S q cs a g)

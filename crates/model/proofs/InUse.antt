@@ -7,16 +7,16 @@ use native.Mathlib.Omega.{arith}
 use lib.Dec.{eqb, ltb, leb}
 use lib.ListN.{length, length-append, length-map}
 use borrow.Author.Tests.{eqb-true, eqb-false, eq-eqb, ne-eqb, lt-ltb, ltb-true, leb-true}
-use Rattle.lists.specs.Lists.{Ascending, Distinct, Each, Over, SameMembers, Within, keep, mem, one, put, sorted, upFrom, without}
+use Rattle.lists.specs.Lists.{Ascending, Distinct, Every, Over, SameMembers, Within, keep, mem, one, put, sorted, upFrom, without}
 use Rattle.lists.specs.Sums.{sumOver}
 use Rattle.model.specs.Change.{added, isNone, placed, top}
 use Rattle.model.specs.Good.{Good, GoodContainer}
 use Rattle.model.specs.Reading.{Container, Reading, has, nodesInUse, prefixesOf, slotsOf, under, walk, wordsOf}
 use Rattle.model.specs.Room.{containerNodes, containersNeeded, fits, nodesNeeded, prefixes, suffixesUnder}
 use Rattle.model.specs.Words.{bytesOf, joined, prefixOf, suffixOf}
-use Rattle.lists.proofs.Laws.{or-cases, or-left, or-right, and-both, both-and, iff-eq, by-test, not-true-false, eqb-self, eqb-sym, mem-map, mem-keep, mem-sorted, mem-without, source, over-mem, mem-over, over-trans, over-not-mem, ascending-sorted, ascending-unique, ascending-distinct, distinct-sorted, distinct-keep, length-within, same-within, same-sym}
+use Rattle.lists.proofs.Laws.{or-cases, or-left, or-right, and-both, both-and, iff-eq, by-test, not-true-false, eqb-self, eqb-sym, mem-map, mem-keep, mem-sorted, mem-without, source, over-mem, mem-over, over-trans, over-not-mem, ascending-distinct, distinct-sorted, distinct-keep, length-within, same-within, same-sym}
 use Rattle.model.proofs.RoomLaws.{container-within, nodes-same, fits-same}
-use Rattle.model.proofs.ContainerLaws.{prefix-joined, suffix-joined, mem-wordsOf, mem-prefixes, under-none, under-some, each-under, length-containers, length-put-new, length-put-old}
+use Rattle.model.proofs.ContainerLaws.{prefix-joined, suffix-joined, mem-wordsOf, prefixes-words, under-none, under-some, each-under, length-containers, length-put-new, length-put-old}
 use Rattle.model.proofs.Steps.{Replaced, prefixes-are, isNone-some, containers⁺, insert-new, replaced⁺, members-insert}
 use Rattle.model.proofs.Combining.{mem-upFrom, length-upFrom}
 
@@ -46,7 +46,7 @@ sum-containers f F (c ∷ cs) a h = ap₂ _+_ (h (c .prefix) (or-left (eqb (c .p
         let l : c .prefix < q = over-mem (prefixesOf cs) (a .0) m in
         h q (or-right (eqb q (c .prefix)) (mem q (prefixesOf cs)) m) ∙ rw (ne-eqb q (c .prefix) (omega arith))
 
-module _ (P S : ℕ) (cs : List Container) (a : Ascending (prefixesOf cs)) (g : Each (GoodContainer P S) cs) where
+module _ (P S : ℕ) (cs : List Container) (a : Ascending (prefixesOf cs)) (g : Every (GoodContainer P S) cs) where
   -- the suffixes of the words under a prefix are those that stand there
   suffixes-are : (p : ℕ) → SameMembers (suffixesUnder S (wordsOf S cs) p) (under p cs)
   suffixes-are p s = mem-sorted s (map (suffixOf S) kept) ∙ iff-eq (mem s (map (suffixOf S) kept)) (mem s (under p cs)) forth back
@@ -78,7 +78,7 @@ module _ (P S : ℕ) (cs : List Container) (a : Ascending (prefixesOf cs)) (g : 
   pub nodes-containers : nodesNeeded S (wordsOf S cs) ≡ nodesByContainer S cs
   unfolding nodesNeeded
   nodes-containers =
-      ap (sumOver F) (ascending-unique (prefixes S (wordsOf S cs)) (prefixesOf cs) (ascending-sorted (map (prefixOf S) (wordsOf S cs))) a (λ q. mem-sorted q (map (prefixOf S) (wordsOf S cs)) ∙ mem-prefixes P S q cs a g))
+      ap (sumOver F) (prefixes-words P S cs a g)
       ∙ sum-containers (containerNodes (bytesOf S)) F cs a (λ q m. container-same (bytesOf S) (suffixesUnder S (wordsOf S cs) q) (under q cs)
       (distinct-sorted (map (suffixOf S) (keep (λ w. eqb (prefixOf S w) q) (wordsOf S cs)))) (each-under P S q cs g .distinct) (suffixes-are q))
     where

@@ -1,3 +1,4 @@
+pub mod Samples
 pub mod RoomLaws
 pub mod StoredLaws
 pub mod ContainerLaws

@@ -10,7 +10,7 @@ use borrow.Author.Tests.{eqb-true, eqb-false, eq-eqb, ne-eqb}
 use Rattle.lists.specs.Lists.{Distinct, SameMembers, Within, keep, mem, one}
 use Rattle.model.specs.Commands.{Code, Command, Run, answer, changed, hasRoom, isInsert, isRemove, run}
 use Rattle.model.specs.Commands.Code.{Insert, Lookup, Remove}
-use Rattle.model.specs.Demands.{AsPlain, Demand3, InRange, Kept, Moved, Rearranged, SameEnd, answered, answersOn, carried, inserted, on}
+use Rattle.model.specs.Demands.{AsPlain, Demand3OnReadings, WordsInRange, Kept, Moved, Rearranged, SameRun, answered, answersOn, carried, inserted, on}
 use Rattle.model.specs.Demands.Moved.{next, none}
 use Rattle.model.specs.Good.{Good}
 use Rattle.model.specs.Plain.{PlainSet, after, plainAnswers, plainEnd, plainStep}
@@ -77,7 +77,7 @@ module _ {xs ys : List Command} {r : Reading} {o o′ : Run} (k : Rearranged xs 
   same-S : o .reading .S ≡ o′ .reading .S
   same-S = h .kept .S ∙ sym (h′ .kept .S)
 
-  pub same-end : SameEnd xs ys o o′
+  pub same-end : SameRun xs ys o o′
   same-end = record {
     answers = same-answers;
     members = same-members;
@@ -91,7 +91,7 @@ module _ {xs ys : List Command} {r : Reading} {o o′ : Run} (k : Rearranged xs 
 -- Second half
 
 -- a list stops nowhere if some set that fits holds the members and all words inserted
-pub no-stop : (cs : List Command) (r : Reading) (ws : List ℕ) → Good r → InRange (r .P + r .S) cs → fits (r .S) (r .C) (r .N) ws ≡ true → Within (walk r) ws → Within (inserted cs) ws → run cs r .stopped ≡ false
+pub no-stop : (cs : List Command) (r : Reading) (ws : List ℕ) → Good r → WordsInRange (r .P + r .S) cs → fits (r .S) (r .C) (r .N) ws ≡ true → Within (walk r) ws → Within (inserted cs) ws → run cs r .stopped ≡ false
 no-stop [] r ws g i f m n = unfold run in refl
 no-stop (c ∷ cs) r ws g i f m n = ap (λ (x : Run). x .stopped) (run-on c cs r room) ∙ no-stop cs (changed (c .code) (c .word) r) ws (good-changed (c .code) (c .word) r g (i .0) room) (in-range cs kept (i .1)) f′ m′ n′
   where
@@ -135,7 +135,7 @@ inserted-on v (c ∷ cs) = go (isInsert (c .code)) refl (eqb v (c .word)) refl (
     go false e true f ih = rw (f, e) ih
     go false e false f ih = rw (f, e) ih
 
-pub neither-stops : (xs ys : List Command) (r : Reading) → Good r → InRange (r .P + r .S) xs → InRange (r .P + r .S) ys → Rearranged xs ys
+pub neither-stops : (xs ys : List Command) (r : Reading) → Good r → WordsInRange (r .P + r .S) xs → WordsInRange (r .P + r .S) ys → Rearranged xs ys
     → fits (r .S) (r .C) (r .N) (walk r ++ inserted xs) ≡ true → (run xs r .stopped ≡ false) × (run ys r .stopped ≡ false)
 neither-stops xs ys r g i j k f = (no-stop xs r ws g i f old new, no-stop ys r ws g j f old new′)
   where
@@ -152,7 +152,7 @@ neither-stops xs ys r g i j k f = (no-stop xs r ws g i f old new, no-stop ys r w
     new′ v m = new v (inserted-on v xs ∙ ap (λ (cs : List Command). mem v (inserted cs)) (k v) ∙ sym (inserted-on v ys) ∙ m)
 
 -- Demand 3
-pub demand-3 : (r : Reading) (xs ys : List Command) → Good r → InRange (r .P + r .S) xs → InRange (r .P + r .S) ys → Rearranged xs ys → Demand3 r xs ys
+pub demand-3 : (r : Reading) (xs ys : List Command) → Good r → WordsInRange (r .P + r .S) xs → WordsInRange (r .P + r .S) ys → Rearranged xs ys → Demand3OnReadings r xs ys
 demand-3 r xs ys g i j k = record {
   same = same-end k (as-plain xs r g i) (as-plain ys r g j) (good-run xs r g i) (good-run ys r g j);
   room = neither-stops xs ys r g i j k;

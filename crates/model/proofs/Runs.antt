@@ -11,7 +11,7 @@ use Rattle.lists.specs.Lists.{Distinct, SameMembers, Within, keep, mem, one}
 use Rattle.model.specs.Change.{insert, isNone, remove, taken, with}
 use Rattle.model.specs.Commands.{Code, Command, Run, answer, changed, hasRoom, isInsert, isRemove, run}
 use Rattle.model.specs.Commands.Code.{Insert, Lookup, Remove}
-use Rattle.model.specs.Demands.{AsPlain, InRange, Kept, NoRoom, answered, carried}
+use Rattle.model.specs.Demands.{AsPlain, WordsInRange, Kept, StoppedForRoom, answered, carried}
 use Rattle.model.specs.Good.{Good}
 use Rattle.model.specs.Plain.{after, plainAnswers, plainEnd, plainStep}
 use Rattle.model.specs.Reading.{Container, Reading, count, has, under, walk}
@@ -96,19 +96,19 @@ unfolding run
 run-stop c cs r e = rw e
 
 -- the bound on words stays the same bound
-pub in-range : {r r′ : Reading} (cs : List Command) → Kept r r′ → InRange (r .P + r .S) cs → InRange (r′ .P + r′ .S) cs
-in-range {r} {r′} cs k i = subst (λ (b : ℕ). InRange b cs) (sym (ap (λ (x : ℕ). x + r′ .S) (k .P) ∙ ap (λ (x : ℕ). r .P + x) (k .S))) i
+pub in-range : {r r′ : Reading} (cs : List Command) → Kept r r′ → WordsInRange (r .P + r .S) cs → WordsInRange (r′ .P + r′ .S) cs
+in-range {r} {r′} cs k i = subst (λ (b : ℕ). WordsInRange b cs) (sym (ap (λ (x : ℕ). x + r′ .S) (k .P) ∙ ap (λ (x : ℕ). r .P + x) (k .S))) i
 
 -- where nothing is carried out
-nothing : (cs : List Command) (r : Reading) (b : Bool) → Good r → (b ≡ false → [] ≡ cs) → (b ≡ true → NoRoom cs (record { answers = []; reading = r; stopped = b })) → AsPlain cs r (record { answers = []; reading = r; stopped = b })
+nothing : (cs : List Command) (r : Reading) (b : Bool) → Good r → (b ≡ false → [] ≡ cs) → (b ≡ true → StoppedForRoom cs (record { answers = []; reading = r; stopped = b })) → AsPlain cs r (record { answers = []; reading = r; stopped = b })
 nothing [] r b g h k = record { kept = kept-self r; answers = refl; members = λ w. refl; counted = refl; whole = λ e. refl; stop = k }
 nothing (c ∷ cs) r b g h k = record { kept = kept-self r; answers = refl; members = λ w. refl; counted = refl; whole = h; stop = k }
 
 -- only an insert is refused
-refused : (c : Command) (cs : List Command) (r : Reading) → hasRoom (c .code) (c .word) r ≡ false → NoRoom (c ∷ cs) (record { answers = []; reading = r; stopped = true })
+refused : (c : Command) (cs : List Command) (r : Reading) → hasRoom (c .code) (c .word) r ≡ false → StoppedForRoom (c ∷ cs) (record { answers = []; reading = r; stopped = true })
 refused c cs r e = by-code (c .code) refl
   where
-    by-code : (d : Code) → c .code ≡ d → NoRoom (c ∷ cs) (record { answers = []; reading = r; stopped = true })
+    by-code : (d : Code) → c .code ≡ d → StoppedForRoom (c ∷ cs) (record { answers = []; reading = r; stopped = true })
     by-code Lookup q = absurd (true≢false (rw q at e))
     by-code Insert q = record { word = c .word; later = cs; here = ap (λ (d : Code). record { code = d; word = c .word } ∷ cs) q; full = rw q at e }
     by-code Remove q = absurd (true≢false (rw q at e))
@@ -128,7 +128,7 @@ goes-on-plain c cs r o g l e h = record {
     now = fun-ext (members-changed (c .code) (c .word) r g l)
 
 -- demand 2 for a command list
-pub as-plain : (cs : List Command) (r : Reading) → Good r → InRange (r .P + r .S) cs → AsPlain cs r (run cs r)
+pub as-plain : (cs : List Command) (r : Reading) → Good r → WordsInRange (r .P + r .S) cs → AsPlain cs r (run cs r)
 as-plain [] r g i = unfold run in nothing [] r false g (λ e. refl) (λ e. absurd (false≢true e))
 as-plain (c ∷ cs) r g i = by-test (hasRoom (c .code) (c .word) r) (on (as-plain cs (changed (c .code) (c .word) r))) off
   where
@@ -138,19 +138,30 @@ as-plain (c ∷ cs) r g i = by-test (hasRoom (c .code) (c .word) r) (on (as-plai
     r′ : Reading
     r′ = changed (c .code) (c .word) r
 
-    on : (Good r′ → InRange (r′ .P + r′ .S) cs → AsPlain cs r′ (run cs r′)) → hasRoom (c .code) (c .word) r ≡ true → AsPlain (c ∷ cs) r (run (c ∷ cs) r)
+    on : (Good r′ → WordsInRange (r′ .P + r′ .S) cs → AsPlain cs r′ (run cs r′)) → hasRoom (c .code) (c .word) r ≡ true → AsPlain (c ∷ cs) r (run (c ∷ cs) r)
     on ih e =
         subst (AsPlain (c ∷ cs) r) (sym (run-on c cs r e))
         (goes-on-plain c cs r (run cs r′) g (i .0) e (ih (good-changed (c .code) (c .word) r g (i .0) e) (in-range cs (kept-changed (c .code) (c .word) r) (i .1))))
 
 -- and the reading stays good
-pub good-run : (cs : List Command) (r : Reading) → Good r → InRange (r .P + r .S) cs → Good (run cs r .reading)
+pub good-run : (cs : List Command) (r : Reading) → Good r → WordsInRange (r .P + r .S) cs → Good (run cs r .reading)
 good-run [] r g i = unfold run in g
 good-run (c ∷ cs) r g i = by-test (hasRoom (c .code) (c .word) r) (on (good-run cs (changed (c .code) (c .word) r))) (λ e. subst (λ (o : Run). Good (o .reading)) (sym (run-stop c cs r e)) g)
   where
     r′ : Reading
     r′ = changed (c .code) (c .word) r
 
-    on : (Good r′ → InRange (r′ .P + r′ .S) cs → Good (run cs r′ .reading)) → hasRoom (c .code) (c .word) r ≡ true → Good (run (c ∷ cs) r .reading)
+    on : (Good r′ → WordsInRange (r′ .P + r′ .S) cs → Good (run cs r′ .reading)) → hasRoom (c .code) (c .word) r ≡ true → Good (run (c ∷ cs) r .reading)
     on ih e =
         subst (λ (o : Run). Good (o .reading)) (sym (run-on c cs r e)) (ih (good-changed (c .code) (c .word) r g (i .0) e) (in-range cs (kept-changed (c .code) (c .word) r) (i .1)))
+
+-- a list that does not stop answers every command
+pub answers-length : (cs : List Command) (r : Reading) → run cs r .stopped ≡ false → length (run cs r .answers) ≡ length cs
+answers-length [] r e = unfold run in refl
+answers-length (c ∷ cs) r e = by-test (hasRoom (c .code) (c .word) r) (on (answers-length cs (changed (c .code) (c .word) r))) (λ h. absurd (true≢false (sym (ap (λ (o : Run). o .stopped) (run-stop c cs r h)) ∙ e)))
+  where
+    r′ : Reading
+    r′ = changed (c .code) (c .word) r
+
+    on : (run cs r′ .stopped ≡ false → length (run cs r′ .answers) ≡ length cs) → hasRoom (c .code) (c .word) r ≡ true → length (run (c ∷ cs) r .answers) ≡ suc (length cs)
+    on ih h = ap (λ (o : Run). length (o .answers)) (run-on c cs r h) ∙ ap suc (ih (sym (ap (λ (o : Run). o .stopped) (run-on c cs r h)) ∙ e))

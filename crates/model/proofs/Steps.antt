@@ -10,16 +10,16 @@ use lib.Pow.{shr-lt}
 use lib.Dec.{eqb, ltb, leb}
 use lib.ListN.{length}
 use borrow.Author.Tests.{eqb-true, eqb-false, eq-eqb, ne-eqb, leb-true}
-use Rattle.lists.specs.Lists.{Ascending, Distinct, Each, Over, SameMembers, Within, keep, mem, one, put, sorted, without}
+use Rattle.lists.specs.Lists.{Ascending, Distinct, Every, Over, SameMembers, Within, keep, mem, one, put, without}
 use Rattle.model.specs.Change.{added, dropped, insert, isNone, placed, remove, rest, slotOf, taken, top, with}
 use Rattle.model.specs.Good.{Good, GoodContainer, GoodSuffixes}
 use Rattle.model.specs.Reading.{Container, Reading, containersInUse, count, has, prefixesOf, slotsOf, under, walk, wordsOf}
 use Rattle.model.specs.Room.{containersNeeded, fits, nodesNeeded, prefixes}
 use Rattle.model.specs.Words.{joined, prefixOf, suffixOf}
-use Rattle.lists.proofs.Laws.{or-false, or-swap, or-assoc, or-left, or-right, or-cases, and-both, both-and, iff-eq, not-true-false, by-test, eqb-self, eqb-sym, mem-append, mem-put, mem-sorted, mem-some, ascending-put, ascending-sorted, ascending-unique, ascending-keep, ascending-distinct, length-same}
+use Rattle.lists.proofs.Laws.{or-false, or-swap, or-assoc, or-left, or-right, or-cases, and-both, both-and, iff-eq, not-true-false, by-test, eqb-self, eqb-sym, mem-append, mem-put, mem-some, ascending-put, ascending-keep, ascending-distinct, length-same}
 use Rattle.model.proofs.RoomLaws.{fits-within, fits-same}
 use Rattle.model.proofs.StoredLaws.{mem-taken, good-taken, mem-added, good-added}
-use Rattle.model.proofs.ContainerLaws.{joined-parts, suffix-lt, under-none, each-under, under-some, mem-wordsOf, distinct-wordsOf, prefixes-placed, under-placed, each-placed, prefixes-dropped, under-dropped, each-dropped, slots-placed-old, slots-placed-new, slots-dropped, length-containers, length-put-new, length-put-old, length-without, mem-prefixes}
+use Rattle.model.proofs.ContainerLaws.{joined-parts, suffix-lt, under-none, each-under, under-some, mem-wordsOf, distinct-wordsOf, prefixes-placed, under-placed, each-placed, prefixes-dropped, under-dropped, each-dropped, slots-placed-old, slots-placed-new, slots-dropped, length-containers, length-put-new, length-put-old, length-without, prefixes-words}
 
 -- a word is told by its two parts
 pub parts-eqb : (S v w : ℕ) → eqb v w ≡ (eqb (prefixOf S v) (prefixOf S w) && eqb (suffixOf S v) (suffixOf S w))
@@ -44,9 +44,7 @@ module _ (r : Reading) (g : Good r) where
   -- the different prefixes of the members are the containers' prefixes
   pub prefixes-are : prefixes (r .S) (walk r) ≡ prefixesOf (r .containers)
   unfolding walk
-  prefixes-are =
-      let ps = map (prefixOf (r .S)) (wordsOf (r .S) (r .containers)) in
-      ascending-unique (sorted ps) (prefixesOf (r .containers)) (ascending-sorted ps) (g .ascending) (λ q. mem-sorted q ps ∙ mem-prefixes (r .P) (r .S) q (r .containers) (g .ascending) (g .each))
+  prefixes-are = prefixes-words (r .P) (r .S) (r .containers) (g .ascending) (g .each)
 
   pub containers-are : containersInUse r ≡ containersNeeded (r .S) (walk r)
   unfolding containersInUse containersNeeded
@@ -55,10 +53,10 @@ module _ (r : Reading) (g : Good r) where
 -- other suffixes under one prefix, the rest as before
 pub record Replaced (P S p : ℕ) (new : List ℕ) (cs ds : List Container) : Type 0 where
   pub ascending : Ascending (prefixesOf ds)
-  pub each : Each (GoodContainer P S) ds
+  pub each : Every (GoodContainer P S) ds
   pub under-is : (q : ℕ) → under q ds ≡ cond (eqb q p) new (under q cs)
 
-mem-replaced : {P S p : ℕ} {new : List ℕ} {cs ds : List Container} → Replaced P S p new cs ds → Ascending (prefixesOf cs) → Each (GoodContainer P S) cs
+mem-replaced : {P S p : ℕ} {new : List ℕ} {cs ds : List Container} → Replaced P S p new cs ds → Ascending (prefixesOf cs) → Every (GoodContainer P S) cs
     → (v : ℕ) → mem v (wordsOf S ds) ≡ cond (eqb (prefixOf S v) p) (mem (suffixOf S v) new) (mem v (wordsOf S cs))
 mem-replaced {P} {S} {p} {new} {cs} {ds} k a g v =
     mem-wordsOf P S v ds (k .ascending) (k .each) ∙ ap (mem (suffixOf S v)) (k .under-is (prefixOf S v))

@@ -12,7 +12,7 @@ use Rattle.model.specs.Reading.{Container, Reading, has, under}
 abbrev pub settled : List ℕ → List ℕ
 settled ss = cond (isTrie ss) (sorted ss) ss
 
--- insert appends to a vector
+-- insert appends to a vector; at 1,025 it becomes a trie, and a trie stays ascending
 abbrev pub added : ℕ → List ℕ → List ℕ
 added s ss = settled (ss ++ (s ∷ []))
 
@@ -61,6 +61,7 @@ abbrev pub rest : List ℕ → List ℕ
 rest [] = []
 rest (x ∷ xs) = xs
 
+-- whether no suffix is there
 abbrev pub isNone : List ℕ → Bool
 isNone [] = true
 isNone (x ∷ xs) = false

@@ -2,14 +2,20 @@
 use mathlib.Core.Bool.{Bool, true, false, not}
 use mathlib.Core.List.{List, _++_, map}
 use Prim.Native.Nat.{ℕ, zero, suc}
+use lib.Dec.{leb}
 use Rattle.lists.specs.Lists.{keep}
 use Rattle.model.specs.Reading.{Reading, walk, has, empty}
 use Rattle.model.specs.Commands.{Code, Command, Run, run}
 
+-- union, intersection, difference and symmetric difference
 pub data Op : Type 0 where
   Or And Minus Xor : Op
 
--- codes 0 or, 1 and, 2 minus, 3 xor (a number above 3 is refused before it is asked for)
+-- codes 0 or, 1 and, 2 minus, 3 xor; no other is known
+abbrev pub knownOp : ℕ → Bool
+knownOp c = leb c 3
+
+-- the combination of a known number
 abbrev pub opOf : ℕ → Op
 opOf zero = Op.Or
 opOf (suc zero) = Op.And

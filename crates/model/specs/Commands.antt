@@ -2,16 +2,22 @@
 use mathlib.Core.Bool.{Bool, true, false, cond, not}
 use mathlib.Core.List.{List, [], _∷_}
 use Prim.Native.Nat.{ℕ, zero, suc}
+use lib.Dec.{leb}
 use lib.ListN.{length}
 use Rattle.lists.specs.Lists.{one}
 use Rattle.model.specs.Room.{fits}
 use Rattle.model.specs.Reading.{Reading, walk, has}
 use Rattle.model.specs.Change.{insert, remove}
 
+-- what a command does
 pub data Code : Type 0 where
   Lookup Insert Remove : Code
 
--- codes 0 lookup, 1 insert, 2 remove (a number above 2 is refused before it is asked for)
+-- codes 0 lookup, 1 insert, 2 remove; no other is known
+abbrev pub knownCode : ℕ → Bool
+knownCode c = leb c 2
+
+-- the code of a known number
 abbrev pub codeOf : ℕ → Code
 codeOf zero = Code.Lookup
 codeOf (suc zero) = Code.Insert

@@ -5,7 +5,7 @@ use mathlib.Core.List.{List, [], _∷_, _++_, map}
 use Prim.Native.Nat.{ℕ, _+_, _^_, _<_}
 use lib.Dec.{eqb}
 use lib.ListN.{length, take, drop}
-use Rattle.lists.specs.Lists.{mem, keep, Each}
+use Rattle.lists.specs.Lists.{mem, keep, different, Distinct, Every}
 use Rattle.model.specs.Room.{fits}
 use Rattle.model.specs.Reading.{Reading, walk, has, count, containersInUse, nodesInUse}
 use Rattle.model.specs.Commands.{Code, Command, Run, isInsert, isRemove, run, place}
@@ -15,8 +15,8 @@ use Rattle.model.specs.Plain.{plainAnswers, plainEnd, plainCombine}
 -- Demand 2
 
 -- every word of the list is below 2^(P+S)
-abbrev pub InRange : ℕ → List Command → Type 0
-InRange bits cs = Each (λ c. c .word < 2 ^ bits) cs
+abbrev pub WordsInRange : ℕ → List Command → Type 0
+WordsInRange bits cs = Every (λ c. c .word < 2 ^ bits) cs
 
 -- the header's four numbers stay
 pub record Kept (r r′ : Reading) : Type 0 where
@@ -36,7 +36,7 @@ abbrev pub carried : List Command → Run → List Command
 carried cs o = take (place o) cs
 
 -- the command after the last answered one is an insert, and the set with its word would not fit
-pub record NoRoom (cs : List Command) (o : Run) : Type 0 where
+pub record StoppedForRoom (cs : List Command) (o : Run) : Type 0 where
   pub word : ℕ
   pub later : List Command
   pub here : drop (place o) cs ≡ record { code = Code.Insert; word = word } ∷ later
@@ -50,13 +50,19 @@ pub record AsPlain (cs : List Command) (r : Reading) (o : Run) : Type 0 where
   -- member count after a list = count before + inserts answered 1 - removes answered 1
   pub counted : count (o .reading) + answered isRemove cs (o .answers) ≡ count r + answered isInsert cs (o .answers)
   pub whole : o .stopped ≡ false → carried cs o ≡ cs
-  pub stop : o .stopped ≡ true → NoRoom cs o
+  pub stop : o .stopped ≡ true → StoppedForRoom cs o
 
--- a combination: it stops exactly when the result does not fit; else its members are the plain set's
-pub record Combined (o : Op) (a b : Reading) (C N : ℕ) (d : Run) : Type 0 where
+-- the walk has no word twice: the member count is the number of members
+pub record WalkAsPlain (r : Reading) : Type 0 where
+  pub once : Distinct (walk r)
+  pub counted : count r ≡ different (walk r)
+
+-- a combination: it stops exactly when the result does not fit; else its members and their count are the plain set's
+pub record CombinedAsPlain (o : Op) (a b : Reading) (C N : ℕ) (d : Run) : Type 0 where
   pub result : (w : ℕ) → mem w (chosen o a b) ≡ plainCombine o (has a) (has b) w
   pub stopped : d .stopped ≡ not (fits (a .S) C N (chosen o a b))
   pub members : d .stopped ≡ false → (w : ℕ) → has (d .reading) w ≡ plainCombine o (has a) (has b) w
+  pub counted : d .stopped ≡ false → count (d .reading) ≡ different (chosen o a b)
 
 -- Demand 3
 
@@ -84,7 +90,7 @@ abbrev pub inserted : List Command → List ℕ
 inserted cs = map (λ c. c .word) (keep (λ c. isInsert (c .code)) cs)
 
 -- each command gets the same answer, and both end with the same members, count, containers and nodes in use
-pub record SameEnd (xs ys : List Command) (o o′ : Run) : Type 0 where
+pub record SameRun (xs ys : List Command) (o o′ : Run) : Type 0 where
   pub answers : (w : ℕ) → answersOn w xs (o .answers) ≡ answersOn w ys (o′ .answers)
   pub members : (w : ℕ) → has (o .reading) w ≡ has (o′ .reading) w
   pub counts : count (o .reading) ≡ count (o′ .reading)
@@ -92,6 +98,6 @@ pub record SameEnd (xs ys : List Command) (o o′ : Run) : Type 0 where
   pub nodes : nodesInUse (o .reading) ≡ nodesInUse (o′ .reading)
 
 -- if neither stops, they come to the same; if the starting members and all words inserted fit together, neither stops
-pub record Demand3 (r : Reading) (xs ys : List Command) : Type 0 where
-  pub same : run xs r .stopped ≡ false → run ys r .stopped ≡ false → SameEnd xs ys (run xs r) (run ys r)
+pub record Demand3OnReadings (r : Reading) (xs ys : List Command) : Type 0 where
+  pub same : run xs r .stopped ≡ false → run ys r .stopped ≡ false → SameRun xs ys (run xs r) (run ys r)
   pub room : fits (r .S) (r .C) (r .N) (walk r ++ inserted xs) ≡ true → (run xs r .stopped ≡ false) × (run ys r .stopped ≡ false)

@@ -5,7 +5,7 @@ use mathlib.Core.List.{List, _++_}
 use Prim.Native.Nat.{ℕ, _+_, _^_, _<_}
 use lib.Dec.{ltb}
 use lib.ListN.{length}
-use Rattle.lists.specs.Lists.{mem, Ascending, Distinct, Each}
+use Rattle.lists.specs.Lists.{mem, Ascending, Distinct, Every}
 use Rattle.model.specs.Room.{isTrie, fits}
 use Rattle.model.specs.Reading.{Container, Reading, walk, prefixesOf, slotsOf}
 
@@ -21,9 +21,10 @@ pub record GoodContainer (P S : ℕ) (c : Container) : Type 0 where
   pub some : 0 < length (c .suffixes)
   pub good : GoodSuffixes S (c .suffixes)
 
+-- containers by ascending prefix, slots, and room
 pub record Good (r : Reading) : Type 0 where
   pub ascending : Ascending (prefixesOf (r .containers))
-  pub each : Each (GoodContainer (r .P) (r .S)) (r .containers)
+  pub each : Every (GoodContainer (r .P) (r .S)) (r .containers)
   -- as many slots as C, and 0 to C - 1 are all there: so none twice
   pub slots : length (r .containers) + length (r .free) ≡ r .C
   pub named : (t : ℕ) → mem t (slotsOf (r .containers) ++ r .free) ≡ ltb t (r .C)

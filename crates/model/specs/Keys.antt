@@ -2,7 +2,7 @@
 use mathlib.Core.Bool.{Bool}
 use mathlib.Core.List.{List, [], _∷_}
 use Prim.Native.Nat.{ℕ, _+_, _*_, _/_, _%_, _^_}
-use Rattle.lists.specs.Lists.{within}
+use Rattle.lists.specs.Lists.{between}
 
 -- a key lies in a set of P=12, S=28
 abbrev pub keyP : ℕ
@@ -21,23 +21,23 @@ pub record Fields : Type 0 where
 
 -- field 0 card 0 to 4,095
 abbrev pub goodCard : ℕ → Bool
-goodCard x = within 0 4095 x
+goodCard x = between 0 4095 x
 
 -- field 1 rollover 0 to 7
 abbrev pub goodRollover : ℕ → Bool
-goodRollover x = within 0 7 x
+goodRollover x = between 0 7 x
 
 -- field 2 folder 100 to 999
 abbrev pub goodFolder : ℕ → Bool
-goodFolder x = within 100 999 x
+goodFolder x = between 100 999 x
 
 -- field 3 frame 0 to 9,999
 abbrev pub goodFrame : ℕ → Bool
-goodFrame x = within 0 9999 x
+goodFrame x = between 0 9999 x
 
 -- field 4 kind 0 raw, 1 sidecar
 abbrev pub goodKind : ℕ → Bool
-goodKind x = within 0 1 x
+goodKind x = between 0 1 x
 
 -- which fields are in range, from the top
 abbrev pub inRange : Fields → List Bool

@@ -8,6 +8,7 @@ use Rattle.model.specs.Commands.Code.{Lookup, Insert, Remove}
 use Rattle.model.specs.Combine.{Op}
 use Rattle.model.specs.Combine.Op.{Or, And, Minus, Xor}
 
+-- a plain set: which numbers are members
 abbrev pub PlainSet : Type 0
 PlainSet = ℕ → Bool
 
@@ -32,12 +33,12 @@ plainEnd [] A = A
 plainEnd (c ∷ cs) A = plainEnd cs (plainStep c A)
 
 -- union, intersection, difference and symmetric difference, for one word
-abbrev pub joins : Op → Bool → Bool → Bool
-joins Or x y = x || y
-joins And x y = x && y
-joins Minus x y = x && not y
-joins Xor x y = (x && not y) || (y && not x)
+abbrev pub plainOp : Op → Bool → Bool → Bool
+plainOp Or x y = x || y
+plainOp And x y = x && y
+plainOp Minus x y = x && not y
+plainOp Xor x y = (x && not y) || (y && not x)
 
 -- and for sets
 abbrev pub plainCombine : Op → PlainSet → PlainSet → PlainSet
-plainCombine o A B w = joins o (A w) (B w)
+plainCombine o A B w = plainOp o (A w) (B w)

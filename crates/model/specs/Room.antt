@@ -17,7 +17,7 @@ threshold = 1024
 abbrev pub isTrie : List ℕ → Bool
 isTrie ss = ltb threshold (length ss)
 
--- the different leading byte strings of length j of some suffixes of b bytes
+-- how many different leading byte strings of length j some suffixes of b bytes have
 abbrev pub leading : ℕ → List ℕ → ℕ → ℕ
 leading b ss j = different (map (λ s. s / 256 ^ (b - j)) ss)
 

@@ -1,5 +1,11 @@
 -- Document 01, "What the port covers": a word of P+S bits, its prefix and its suffix. Assumes nothing.
+use mathlib.Core.Bool.{Bool}
 use Prim.Native.Nat.{ℕ, _+_, _*_, _/_, _%_, _^_}
+use lib.Dec.{ltb}
+
+-- a word of a set has P+S bits: it is below 2^(P+S)
+abbrev pub isWord : ℕ → ℕ → ℕ → Bool
+isWord P S w = ltb w (2 ^ (P + S))
 
 -- a word's prefix is word div 2^S
 abbrev pub prefixOf : ℕ → ℕ → ℕ

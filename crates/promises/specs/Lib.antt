@@ -1,5 +1,6 @@
 pub mod Refusals
 pub mod Answers
+pub mod Reads
 pub mod Make
 pub mod Check
 pub mod List
@@ -7,3 +8,5 @@ pub mod AllMembers
 pub mod Walk
 pub mod Combine
 pub mod Keys
+pub mod Worked
+pub mod Demands

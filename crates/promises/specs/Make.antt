@@ -5,7 +5,7 @@ use mathlib.Core.List.{List, _++_}
 use Prim.Native.Nat.{ℕ}
 use lib.Dec.{ltb}
 use lib.ListN.{length, drop}
-use Rattle.region.specs.Numbers.{goodNumbers}
+use Rattle.region.specs.Ranges.{goodNumbers}
 use Rattle.region.specs.Geometry.{total}
 use Rattle.region.specs.Fresh.{fresh}
 use Rattle.promises.specs.Refusals.{Refusal, Told, when, tell, unlessRefused}

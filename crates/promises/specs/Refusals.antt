@@ -16,6 +16,7 @@ pub data Told (A : Type 0) : Type 0 where
   gave : A → Told A
   refused : Refusal → Told A
 
+-- number n at place k
 abbrev pub refusal : ℕ → ℕ → Refusal
 refusal n k = record { number = n; place = k }
 
@@ -33,7 +34,7 @@ abbrev pub tell : {A : Type 0} → List Refusal → A → Told A
 tell [] a = Told.gave a
 tell (x ∷ xs) a = Told.refused x
 
--- what is lent stays as it was where there is a refusal
+-- what is lent afterwards: as the entry leaves it, or as it was where there is a refusal
 abbrev pub unlessRefused : List Refusal → List ℕ → List ℕ → List ℕ
 unlessRefused [] after before = after
 unlessRefused (x ∷ xs) after before = before

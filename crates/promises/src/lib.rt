@@ -56,9 +56,13 @@ pub enum Combined {
 
 // The fields of a preview key, each of a type of its own, so that none is passed for another by accident.
 pub struct Card(pub u64);
+
 pub struct Rollover(pub u64);
+
 pub struct Folder(pub u64);
+
 pub struct Frame(pub u64);
+
 pub struct Kind(pub u64);
 
 pub struct Fields {

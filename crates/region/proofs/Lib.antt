@@ -1,0 +1,16 @@
+pub mod Areas
+pub mod FreshAreas
+pub mod FreshShape
+pub mod Worked
+pub mod Samples
+pub mod Bytes
+pub mod Paths
+pub mod SeenAlike
+pub mod OnePath
+pub mod Listing
+pub mod Looked
+pub mod Leading
+pub mod Containers
+pub mod NodeCount
+pub mod SeenBits
+pub mod Facts

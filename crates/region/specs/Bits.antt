@@ -16,6 +16,10 @@ bitAt w i = wordBit (w (i / 64)) (i % 64)
 unfoldable pub bit : List ℕ → ℕ → ℕ
 bit ws i = bitAt (λ k. getD ws k 0) i
 
--- how many bits below place i are set: rank counts strictly smaller ones
+-- how many of the bits b 0, b 1, .. below place i are set: rank counts strictly smaller ones
+abbrev pub rankIn : (ℕ → ℕ) → ℕ → ℕ
+rankIn b i = sum b i
+
+-- the rank in a list of words
 unfoldable pub rank : List ℕ → ℕ → ℕ
-rank ws i = sum (bit ws) i
+rank ws i = rankIn (bit ws) i

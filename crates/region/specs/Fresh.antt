@@ -3,15 +3,17 @@ use mathlib.Core.List.{List, [], _∷_, _++_}
 use Prim.Native.Nat.{ℕ, _*_}
 use lib.ListN.{replicate}
 use Rattle.lists.specs.Lists.{blocks, downFrom}
+use Rattle.region.specs.Ranges.{form}
 use Rattle.region.specs.Geometry.{bitmapWords, stripWords, offBitmap, offRanks, offStack, offRecords, offEntries, offNodeStack, offNodes, total}
 
+-- n words of 0
 abbrev pub zeros : ℕ → List ℕ
 zeros n = replicate n 0
 
--- form 1, P, S, C, N, no container and no node in use, no member, the seven offsets and the total length
+-- form, P, S, C, N, no container and no node in use, no member, the seven offsets and the total length
 abbrev pub freshHeader : ℕ → ℕ → ℕ → ℕ → List ℕ
 freshHeader P S C N =
-    1 ∷ P ∷ S ∷ C ∷ N ∷ 0 ∷ 0 ∷ 0
+    form ∷ P ∷ S ∷ C ∷ N ∷ 0 ∷ 0 ∷ 0
     ∷ offBitmap ∷ offRanks P ∷ offStack P C ∷ offRecords P C ∷ offEntries P C ∷ offNodeStack P C ∷ offNodes P C N ∷ total P C N
     ∷ []
 

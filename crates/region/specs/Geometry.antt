@@ -1,5 +1,6 @@
 -- Document 01, "The region": the areas in order, without gaps from word 16. Assumes nothing.
 use Prim.Native.Nat.{ℕ, _+_, _*_, _/_, _^_, max}
+use Rattle.model.specs.Room.{threshold}
 
 -- sixteen header words
 abbrev pub headerWords : ℕ
@@ -13,9 +14,9 @@ bitmapWords P = max 1 (2 ^ P / 64)
 abbrev pub recordWords : ℕ
 recordWords = 4
 
--- suffix entries: 1,024 for each container
+-- suffix entries: 1,024 for each container, the most that a vector holds
 abbrev pub stripWords : ℕ
-stripWords = 1024
+stripWords = threshold
 
 -- nodes: 264 words each
 abbrev pub nodeWords : ℕ

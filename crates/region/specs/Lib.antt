@@ -1,4 +1,4 @@
-pub mod Numbers
+pub mod Ranges
 pub mod Geometry
 pub mod Bits
 pub mod Areas
@@ -9,4 +9,4 @@ pub mod Seen
 pub mod Read
 pub mod WellFormed
 pub mod Linked
-pub mod Alike
+pub mod LookedAt

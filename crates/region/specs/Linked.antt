@@ -6,7 +6,7 @@ use Rattle.model.specs.Words.{bytesOf}
 use Rattle.region.specs.Areas.{Numbers}
 use Rattle.region.specs.Nodes.{Nodes}
 use Rattle.region.specs.Seen.{Seen}
-use Rattle.region.specs.WellFormed.{Some, Child}
+use Rattle.region.specs.WellFormed.{AllNonEmpty, Children}
 
 -- node n, in use at level l + 1, is named by its parent
 pub record Above (v : Nodes) (N l n : ℕ) : Type 0 where
@@ -19,12 +19,8 @@ pub record Above (v : Nodes) (N l n : ℕ) : Type 0 where
 -- N nodes of tries of b levels
 pub record Wf (v : Nodes) (N b : ℕ) : Type 0 where
   pub levels : (n : ℕ) → n < N → v .level1 n ≤ b
-  pub down : (l n x : ℕ) → n < N → v .level1 n ≡ suc l → suc l < b → x < 256 → v .bit n x ≡ 1 → Child v N l n x (v .child n x)
+  pub down : Children v N b
   pub up : (l n : ℕ) → n < N → v .level1 n ≡ suc (suc l) → Above v N l n
-
--- every node in use has a map that is not empty
-abbrev pub Full : Nodes → ℕ → Type 0
-Full v N = (n : ℕ) → n < N → v .level1 n ≢ 0 → Some v n
 
 -- node n is the root of the trie in the slot that its word 5 names
 pub record Rooted (g : Numbers) (v : Seen) (n : ℕ) : Type 0 where
@@ -35,5 +31,5 @@ pub record Rooted (g : Numbers) (v : Seen) (n : ℕ) : Type 0 where
 -- the nodes hang together
 pub record Linked (g : Numbers) (v : Seen) : Type 0 where
   pub wf : Wf (v .node) (g .N) (bytesOf (g .S))
-  pub full : Full (v .node) (g .N)
+  pub non-empty : AllNonEmpty (v .node) (g .N)
   pub rooted : (n : ℕ) → n < g .N → v .node .level1 n ≡ 1 → Rooted g v n

@@ -30,5 +30,6 @@ read g v =
       free = downFrom (v .free) (g .C - g .k);
     }
 
+-- what a region reads as, by the numbers of its own header
 unfoldable pub reading : List ℕ → Reading
 reading l = read (numbers l) (seen (numbers l) l)

@@ -7,6 +7,7 @@ use Rattle.region.specs.Bits.{bit}
 use Rattle.region.specs.Areas.{Numbers, bitmap, ranks, stack, records, entries, nodeStack, nodes}
 use Rattle.region.specs.Nodes.{Nodes, nodesOf}
 
+-- the areas, place by place
 pub record Seen : Type 0 where
   -- bit p of the prefix bitmap
   pub bit : ℕ → ℕ

@@ -1,5 +1,5 @@
--- Document 01, "The region": when a slice of words is a well-formed region. Each line stands under the document's words, in its order.
--- What is not named for a kind is not looked at: specs/Alike says what is, and proofs/Looked that nothing else matters. Assumes nothing.
+-- Document 01, "The region": when a slice of words is a well-formed region. Every line stands under the document's words, in its order.
+-- What is not named for a kind is not looked at: specs/SameLookedAt says what is, and proofs/Looked that nothing else matters. Assumes nothing.
 use Prim.Native.Nat.{ℕ, suc, _-_, _*_, _^_, _<_, _≤_, min}
 use mathlib.Core.Path.{_≡_}
 use mathlib.Core.Logic.{_≢_}
@@ -11,8 +11,9 @@ use Rattle.lists.specs.Sums.{sum}
 use Rattle.model.specs.Words.{bytesOf}
 use Rattle.model.specs.Room.{threshold}
 use Rattle.model.specs.Reading.{walk}
-use Rattle.region.specs.Numbers.{goodNumbers}
+use Rattle.region.specs.Ranges.{form, goodNumbers}
 use Rattle.region.specs.Geometry.{headerWords, bitmapWords, offBitmap, offRanks, offStack, offRecords, offEntries, offNodeStack, offNodes, total}
+use Rattle.region.specs.Bits.{rankIn}
 use Rattle.region.specs.Areas.{Numbers, numbers}
 use Rattle.region.specs.Nodes.{Nodes}
 use Rattle.region.specs.Tries.{byteOf, members, follow, Path}
@@ -21,7 +22,7 @@ use Rattle.region.specs.Read.{read}
 
 -- the header keeps the numbers above and the offsets follow from it
 pub record Header (l : List ℕ) (g : Numbers) : Type 0 where
-  pub form : getD l 0 0 ≡ 1
+  pub form-is : getD l 0 0 ≡ form
   pub ranges : goodNumbers (g .P) (g .S) (g .C) (g .N) ≡ true
   pub bitmap : getD l 8 0 ≡ offBitmap
   pub ranks : getD l 9 0 ≡ offRanks (g .P)
@@ -33,7 +34,7 @@ pub record Header (l : List ℕ) (g : Numbers) : Type 0 where
   pub total-length : getD l 15 0 ≡ total (g .P) (g .C) (g .N)
 
 -- node n's map is not empty
-pub record Some (v : Nodes) (n : ℕ) : Type 0 where
+pub record NonEmpty (v : Nodes) (n : ℕ) : Type 0 where
   pub at : ℕ
   pub small : at < 256
   pub is-set : v .bit n at ≡ 1
@@ -45,10 +46,18 @@ pub record Child (v : Nodes) (N l n x m : ℕ) : Type 0 where
   pub parent : v .parent m ≡ n
   pub byte : v .byte m ≡ x
 
+-- every node in use, of N, has a map that is not empty
+abbrev pub AllNonEmpty : Nodes → ℕ → Type 0
+AllNonEmpty v N = (n : ℕ) → n < N → v .level1 n ≢ 0 → NonEmpty v n
+
+-- in tries of b levels, every set bit above the last level has a child one level down and its back link
+abbrev pub Children : Nodes → ℕ → ℕ → Type 0
+Children v N b = (l n x : ℕ) → n < N → v .level1 n ≡ suc l → suc l < b → x < 256 → v .bit n x ≡ 1 → Child v N l n x (v .child n x)
+
 module _ (g : Numbers) (v : Seen) where
   -- rank counts strictly smaller prefixes
   abbrev pub rankOf : ℕ → ℕ
-  rankOf p = sum (v .bit) p
+  rankOf p = rankIn (v .bit) p
 
   -- slot c is in use and bears the prefix p
   pub record Bears (p c : ℕ) : Type 0 where
@@ -62,6 +71,7 @@ module _ (g : Numbers) (v : Seen) where
     pub is-set : v .bit (v .prefix c) ≡ 1
     pub there : v .slot (rankOf (v .prefix c)) ≡ c
 
+  -- prefixes, ranks and records
   pub record Placed : Type 0 where
     -- bitmap bits from 2^P on are zero
     pub past : (p : ℕ) → 2 ^ g .P ≤ p → p < 64 * bitmapWords (g .P) → v .bit p ≡ 0
@@ -90,6 +100,7 @@ module _ (g : Numbers) (v : Seen) where
     pub root-back : v .node .parent (v .link c) ≡ c
     pub true-size : v .size c ≡ length (members (v .node) (bytesOf (g .S)) (v .link c))
 
+  -- what the containers hold
   pub record Held : Type 0 where
     pub vector : (c : ℕ) → c < g .C → v .kind c ≡ 1 → Vector c
     pub trie : (c : ℕ) → c < g .C → v .kind c ≡ 2 → Trie c
@@ -113,13 +124,14 @@ module _ (g : Numbers) (v : Seen) where
     pub len : (r : Reached n) → r .len ≡ way .len
     pub string : (r : Reached n) → r .string ≡ way .string
 
+  -- how the nodes hang together
   pub record Hung : Type 0 where
     -- every used node is reached from one root by one path
     pub reached : (n : ℕ) → n < g .N → v .node .level1 n ≢ 0 → OnePath n
     -- every node's map is non-empty
-    pub full : (n : ℕ) → n < g .N → v .node .level1 n ≢ 0 → Some (v .node) n
+    pub non-empty : AllNonEmpty (v .node) (g .N)
     -- every set bit above the last level has a child one level down and its back link
-    pub children : (l n x : ℕ) → n < g .N → v .node .level1 n ≡ suc l → suc l < bytesOf (g .S) → x < 256 → v .node .bit n x ≡ 1 → Child (v .node) (g .N) l n x (v .node .child n x)
+    pub children : Children (v .node) (g .N) (bytesOf (g .S))
 
   -- place i of the container free stack holds a free slot that is linked to i
   pub record FreeSlot (i : ℕ) : Type 0 where
@@ -163,6 +175,7 @@ module _ (g : Numbers) (v : Seen) where
     pub stacks : Stacks
     pub counts : Counts
 
+-- a slice of words is a well-formed region
 pub record WellFormed (l : List ℕ) : Type 0 where
   -- the slice has at least 16 words
   pub has-header : headerWords ≤ length l

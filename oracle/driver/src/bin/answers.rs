@@ -116,6 +116,7 @@ fn tiny_ops(page: &mut Page, map: Map, bytes: &[u8]) {
     let all: Vec<u64> = tiny.iter().map(u64::from).collect();
     let model: BTreeSet<u64> = all.iter().copied().collect();
     assert_eq!(all, model.iter().copied().collect::<Vec<_>>());
+    assert_eq!((tiny.count(), tiny.is_empty()), (model.len(), model.is_empty()));
     page.line(with(4, vec![tiny.is_empty() as u64]));
     page.line(with(5, vec![tiny.count() as u64]));
     page.line(with(7, std::iter::once(all.len() as u64).chain(all.iter().copied()).collect()));
@@ -134,6 +135,10 @@ fn changed(page: &mut Page, op: u64, map: Map, byte: u8) {
     let mut tiny = tiny_of(map);
     let answer = if op == 2 { tiny.insert(byte) } else { tiny.remove(byte) };
     let after = map_of(&tiny);
+    let (word, bit) = (byte as usize / 64, 1 << (byte % 64));
+    let mut expected = map;
+    expected[word] = if op == 2 { map[word] | bit } else { map[word] & !bit };
+    assert_eq!((after, answer), (expected, expected != map), "the node map is no plain set");
     let numbers = std::iter::once(op).chain(map).chain([byte as u64, answer as u64]).chain(after);
     page.line(numbers);
 }

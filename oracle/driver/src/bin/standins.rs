@@ -7,6 +7,7 @@ fn main() {
     let mut numbers = Numbers(5);
     rank_bv(&mut numbers);
     tiered_vec(&mut numbers);
+    bitmaps(&mut numbers);
     iter_set_ops(&mut numbers);
     combinations(&mut numbers);
     word_sets(&mut numbers);
@@ -66,6 +67,33 @@ fn tiered_vec(numbers: &mut Numbers) {
     }
 }
 
+/// The operators of bitvector/set_ops against plain sets.
+fn bitmaps(numbers: &mut Numbers) {
+    for bitlength in [1usize, 6, 9] {
+        for code in 0..4 {
+            let mut bits = || -> Vec<u64> { (0..40).map(|_| numbers.below(1 << bitlength)).collect() };
+            let make = |bits: &[u64]| {
+                let mut map = published::bitvector::Bitvector::new_with_bitlength(bitlength);
+                for &bit in bits {
+                    map.insert(bit as usize);
+                }
+                map
+            };
+            let (a, b) = (bits(), bits());
+            let (mut left, right) = (make(&a), make(&b));
+            match code {
+                0 => left |= &right,
+                1 => left &= &right,
+                2 => left -= &right,
+                _ => left ^= &right,
+            }
+            let found: Vec<u64> = left.iter().map(|bit| bit as u64).collect();
+            assert_eq!(found, plain(code, &a, &b), "bitmaps, {}", COMBINATIONS[code]);
+            assert_eq!(left.count(), found.len(), "bitmaps, {}", COMBINATIONS[code]);
+        }
+    }
+}
+
 /// The four functions of iter_set_ops against plain sets.
 fn iter_set_ops(numbers: &mut Numbers) {
     for many in 1..5usize {
@@ -104,7 +132,10 @@ fn combinations(numbers: &mut Numbers) {
             let mut words = || -> Vec<u64> {
                 (0..len).map(|_| (numbers.below(prefixes) << s) + numbers.below(suffixes)).collect()
             };
-            let (a, b) = (words(), words());
+            let (a, mut b) = (words(), words());
+            // One prefix is alike on both sides, so that a result can lose it.
+            b.retain(|word| word >> s != 0);
+            b.extend(a.iter().filter(|&word| word >> s == 0));
             for code in 0..4 {
                 let found = combined(p, s, code, &a, &b);
                 let expected = plain(code, &a, &b);
