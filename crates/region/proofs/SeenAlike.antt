@@ -218,9 +218,9 @@ module _ (g : Numbers) (v w : Seen) (a : SameLookedAt g v w) (sh : Shape g v) wh
       let el : w .link c ≡ v .link c = a .link c h (omega arith) in
       record { in-range = omega (arith, x .in-range); there = ap (w .free) el ∙ a .free (v .link c) (x .in-range) ∙ x .there }
 
-  spare-node-alike : (i : ℕ) → i < g .N - g .used → SpareNode g w i
+  spare-node-alike : (i : ℕ) → i < g .N - g .used → SpareNode (g .N) (w .spare) (w .node) i
   spare-node-alike i h =
-      let x : SpareNode g v i = sh .stacks .spare-nodes i h in
+      let x : SpareNode (g .N) (v .spare) (v .node) i = sh .stacks .spare-nodes i h in
       let e : w .spare i ≡ v .spare i = a .spare i h in
       record {
         in-range = omega (arith, x .in-range);
@@ -228,9 +228,9 @@ module _ (g : Numbers) (v w : Seen) (a : SameLookedAt g v w) (sh : Shape g v) wh
         place = ap (w .node .parent) e ∙ a .nodes .parent (v .spare i) (x .in-range) ∙ x .place;
       }
 
-  stacked-node-alike : (n : ℕ) → n < g .N → w .node .level1 n ≡ 0 → StackedNode g w n
+  stacked-node-alike : (n : ℕ) → n < g .N → w .node .level1 n ≡ 0 → StackedNode (g .N - g .used) (w .spare) (w .node) n
   stacked-node-alike n h e =
-      let x : StackedNode g v n = sh .stacks .stacked-nodes n h (sym (a .nodes .level1 n h) ∙ e) in
+      let x : StackedNode (g .N - g .used) (v .spare) (v .node) n = sh .stacks .stacked-nodes n h (sym (a .nodes .level1 n h) ∙ e) in
       let ep : w .node .parent n ≡ v .node .parent n = a .nodes .parent n h in
       record { in-range = omega (arith, x .in-range); there = ap (w .spare) ep ∙ a .spare (v .node .parent n) (x .in-range) ∙ x .there }
 

@@ -54,6 +54,21 @@ AllNonEmpty v N = (n : ℕ) → n < N → v .level1 n ≢ 0 → NonEmpty v n
 abbrev pub Children : Nodes → ℕ → ℕ → Type 0
 Children v N b = (l n x : ℕ) → n < N → v .level1 n ≡ suc l → suc l < b → x < 256 → v .bit n x ≡ 1 → Child v N l n x (v .child n x)
 
+-- place i of the node free stack holds a free node, of N, that is linked to i
+pub record SpareNode (N : ℕ) (spare : ℕ → ℕ) (v : Nodes) (i : ℕ) : Type 0 where
+  pub in-range : spare i < N
+  pub is-free : v .level1 (spare i) ≡ 0
+  pub place : v .parent (spare i) ≡ i
+
+-- node n stands among the first free places of the node free stack, at the one that it is linked to
+pub record StackedNode (free : ℕ) (spare : ℕ → ℕ) (v : Nodes) (n : ℕ) : Type 0 where
+  pub in-range : v .parent n < free
+  pub there : spare (v .parent n) ≡ n
+
+-- how many of N nodes are in use
+abbrev pub nodesUsed : Nodes → ℕ → ℕ
+nodesUsed v N = sum (λ n. min 1 (v .level1 n)) N
+
 module _ (g : Numbers) (v : Seen) where
   -- rank counts strictly smaller prefixes
   abbrev pub rankOf : ℕ → ℕ
@@ -144,27 +159,16 @@ module _ (g : Numbers) (v : Seen) where
     pub in-range : v .link c < g .C - g .k
     pub there : v .free (v .link c) ≡ c
 
-  -- place i of the node free stack holds a free node that is linked to i
-  pub record SpareNode (i : ℕ) : Type 0 where
-    pub in-range : v .spare i < g .N
-    pub is-free : v .node .level1 (v .spare i) ≡ 0
-    pub place : v .node .parent (v .spare i) ≡ i
-
-  -- node n stands among the first N-used places, at the one that it is linked to
-  pub record StackedNode (n : ℕ) : Type 0 where
-    pub in-range : v .node .parent n < g .N - g .used
-    pub there : v .spare (v .node .parent n) ≡ n
-
   -- all other slots are free, once in the stack and linked to that place
   pub record Stacks : Type 0 where
     pub free-slots : (i : ℕ) → i < g .C - g .k → FreeSlot i
     pub stacked : (c : ℕ) → c < g .C → v .kind c ≡ 0 → Stacked c
-    pub spare-nodes : (i : ℕ) → i < g .N - g .used → SpareNode i
-    pub stacked-nodes : (n : ℕ) → n < g .N → v .node .level1 n ≡ 0 → StackedNode n
+    pub spare-nodes : (i : ℕ) → i < g .N - g .used → SpareNode (g .N) (v .spare) (v .node) i
+    pub stacked-nodes : (n : ℕ) → n < g .N → v .node .level1 n ≡ 0 → StackedNode (g .N - g .used) (v .spare) (v .node) n
 
   -- the three counts are true (that of containers is Placed's prefixes)
   pub record Counts : Type 0 where
-    pub used-true : sum (λ n. min 1 (v .node .level1 n)) (g .N) ≡ g .used
+    pub used-true : nodesUsed (v .node) (g .N) ≡ g .used
     pub count-true : length (walk (read g v)) ≡ g .count
 
   -- what the areas keep
