@@ -1,0 +1,4 @@
+pub mod Ranges
+pub mod Telling
+pub mod Keys
+pub mod Inverse

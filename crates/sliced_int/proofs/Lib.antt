@@ -1,0 +1,4 @@
+pub mod Laws
+pub mod Bytewise
+pub mod Orders
+pub mod Filling

@@ -1,0 +1,2 @@
+pub mod Sliced
+pub mod Ordered
