@@ -8,11 +8,7 @@ use Rattle.model.specs.Keys.{Fields, keyOf, fieldsOf}
 use Rattle.promises.specs.Refusals.{Refusal, Told, refusal}
 use Rattle.promises.specs.Refusals.Told.{gave, refused}
 use Rattle.promises.specs.Keys.{PackPromise, UnpackPromise}
-use Rattle.promises.proofs.Determine.{pack-determines, unpack-determines}
 use Rattle.keys.specs.Range.{firstOut}
-use Rattle.keys.specs.Verdicts.{packVerdict, unpackVerdict, PackTells, UnpackTells}
-use Rattle.keys.specs.declared.exports.PackVerdict.{PackVerdict}
-use Rattle.keys.specs.declared.exports.UnpackVerdict.{UnpackVerdict}
 use Rattle.keys.proofs.Ranges.{out-le}
 use Rattle.keys.proofs.Telling.{tells-field, tells-value, tells-large, tells-fields, tells-bad-word}
 use Rattle.keys.proofs.Keys.{key-fields, key-below, word-key, word-place}
@@ -90,10 +86,3 @@ pack-unpacked w f told u p =
     let k = unpacks w f u in
     let e : keyOf f ≡ w = ap keyOf (k .is) ∙ word-key w in
     p .tells ∙ sym (tells-value f (keyOf f) (k .good)) ∙ ap gave e
-
--- two verdicts on the same fields are the same, and so are two on the same word
-pub one-pack-verdict : (f : Fields) (r s : PackVerdict) → PackTells f r → PackTells f s → r ≡ s
-one-pack-verdict f r s p q = p .verdict ∙ ap packVerdict (pack-determines (p .promise) (q .promise)) ∙ sym (q .verdict)
-
-pub one-unpack-verdict : (w : ℕ) (r s : UnpackVerdict) → UnpackTells w r → UnpackTells w s → r ≡ s
-one-unpack-verdict w r s p q = p .verdict ∙ ap unpackVerdict (unpack-determines (p .promise) (q .promise)) ∙ sym (q .verdict)

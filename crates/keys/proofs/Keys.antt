@@ -6,16 +6,15 @@ use native.Mathlib.Decide.{decLt}
 use native.Mathlib.Omega.{arith}
 use lib.Bits.{bitAnd, and-mask}
 use lib.Pow.{shr-shr}
-use Rattle.model.specs.Keys.{Fields, keyOf, fieldsOf}
+use Rattle.model.specs.Keys.{fieldsAre, Fields, keyOf, fieldsOf}
 use Rattle.keys.specs.Range.{firstOut}
-use Rattle.keys.specs.Verdicts.{numbers}
 use Rattle.keys.proofs.Ranges.{in-range, out-folder-low, out-folder, out-frame, out-none}
 
-same-fields : {a b c d e a' b' c' d' e' : ℕ} → a ≡ a' → b ≡ b' → c ≡ c' → d ≡ d' → e ≡ e' → numbers a b c d e ≡ numbers a' b' c' d' e'
+same-fields : {a b c d e a' b' c' d' e' : ℕ} → a ≡ a' → b ≡ b' → c ≡ c' → d ≡ d' → e ≡ e' → fieldsAre a b c d e ≡ fieldsAre a' b' c' d' e'
 same-fields p q r s t = rw (p, q, r, s, t)
 
 -- shifts and masks read the fields off a word
-pub masked : (w : ℕ) → numbers (w / 2 ^ 28) (bitAnd (w / 2 ^ 25) 7) (bitAnd (w / 2 ^ 15) 1023) (bitAnd (w / 2) 16383) (bitAnd w 1) ≡ fieldsOf w
+pub masked : (w : ℕ) → fieldsAre (w / 2 ^ 28) (bitAnd (w / 2 ^ 25) 7) (bitAnd (w / 2 ^ 15) 1023) (bitAnd (w / 2) 16383) (bitAnd w 1) ≡ fieldsOf w
 masked w = same-fields refl (and-mask (w / 2 ^ 25) 3) (and-mask (w / 2 ^ 15) 10) (and-mask (w / 2) 14) (and-mask w 1)
 
 -- fields in range

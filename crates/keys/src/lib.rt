@@ -1,12 +1,7 @@
 // Preview keys of document 01: pack five fields into a word of 40 bits, and unpack them. The fields' types and the answers are of `promises`.
-mod exports;
 mod layout;
 mod range;
 
-pub use exports::PackVerdict;
-pub use exports::UnpackVerdict;
-pub use exports::brothowl_pack;
-pub use exports::brothowl_unpack;
 use promises::Fields;
 use promises::Packed;
 use promises::Unpacked;

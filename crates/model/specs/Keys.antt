@@ -19,6 +19,10 @@ pub record Fields : Type 0 where
   pub frame : ℕ
   pub kind : ℕ
 
+-- five numbers as the fields
+abbrev pub fieldsAre : ℕ → ℕ → ℕ → ℕ → ℕ → Fields
+fieldsAre card rollover folder frame kind = record { card = card; rollover = rollover; folder = folder; frame = frame; kind = kind }
+
 -- field 0 card 0 to 4,095
 abbrev pub goodCard : ℕ → Bool
 goodCard x = between 0 4095 x

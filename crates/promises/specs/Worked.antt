@@ -6,7 +6,7 @@ use lib.Dec.{eqb}
 use Rattle.model.specs.Reading.{Reading, walk, count, empty}
 use Rattle.model.specs.Commands.{Run, commands, run}
 use Rattle.model.specs.Combine.{opOf, inserting, combine}
-use Rattle.model.specs.Keys.{Fields, keyOf, fieldsOf}
+use Rattle.model.specs.Keys.{Fields, fieldsAre, keyOf, fieldsOf}
 use Rattle.promises.specs.Refusals.{Told, Refusal, refusal, tell}
 use Rattle.promises.specs.Refusals.Told.{gave, refused}
 use Rattle.promises.specs.Walk.{walkFrom}
@@ -49,9 +49,6 @@ sameTold same (gave x) (gave y) = same x y
 sameTold same (gave x) (refused s) = false
 sameTold same (refused r) (gave y) = false
 sameTold same (refused r) (refused s) = eqb (r .number) (s .number) && eqb (r .place) (s .place)
-
-abbrev pub fieldsAre : ℕ → ℕ → ℕ → ℕ → ℕ → Fields
-fieldsAre c r d f k = record { card = c; rollover = r; folder = d; frame = f; kind = k }
 
 -- whether a row is what the definitions compute
 abbrev pub computes : Row → Bool

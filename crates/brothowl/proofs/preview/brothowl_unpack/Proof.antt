@@ -1,4 +1,4 @@
--- `keys::exports::brothowl_unpack` meets its contract: each answer of `unpack` has its numbers. Assumes nothing.
+-- `brothowl::preview::brothowl_unpack` meets its contract: each answer of `unpack` has its numbers. Assumes nothing.
 use mathlib.Core.Path.{refl, subst}
 use Rattle.promises.specs.Refusals.{refusal}
 use Rattle.promises.specs.Refusals.Told.{gave, refused}
@@ -6,8 +6,8 @@ use Rattle.promises.specs.Keys.{UnpackPromise}
 use Rattle.promises.specs.Answers.{fields, unpacked}
 use Rattle.promises.specs.declared.Unpacked.{Unpacked}
 use borrow.Author.Needs.{needs}
-use Rattle.keys.proofs.exports.brothowl_unpack.Statement.{statement}
-use Rattle.keys.proofs.exports.brothowl_unpack.Tie as tie
+use Rattle.brothowl.proofs.preview.brothowl_unpack.Statement.{statement}
+use Rattle.brothowl.proofs.preview.brothowl_unpack.Tie as tie
 
 unpack-requires : tie.Need-unpack-requires
 unpack-requires c κs = search needs

@@ -7,7 +7,8 @@ use promises::Kind;
 use promises::Packed;
 use promises::Rollover;
 use promises::Unpacked;
-ghost use Rattle.keys.specs.Verdicts.{numbers, withFields, PackTells, UnpackTells};
+ghost use Rattle.model.specs.Keys.{fieldsAre};
+ghost use Rattle.brothowl.specs.Verdicts.{withFields, PackTells, UnpackTells};
 ghost use mathlib.Core.Path.{_≡_};
 
 // number 0 and place 0: packed, with its key. Else the refusal's number and place, and key 0.
@@ -38,7 +39,7 @@ pub extern "C" fn brothowl_pack(
     frame: u64,
     kind: u64,
 ) -> PackVerdict
-    ensures { λ r. ⌜ PackTells (numbers card rollover folder frame kind) r ⌝ }
+    ensures { λ r. ⌜ PackTells (fieldsAre card rollover folder frame kind) r ⌝ }
 {
     let f = Fields {
         card: Card(card),
@@ -47,7 +48,7 @@ pub extern "C" fn brothowl_pack(
         frame: Frame(frame),
         kind: Kind(kind),
     };
-    match super::pack(f) {
+    match keys::pack(f) {
         Packed::Key(key) => PackVerdict {
             number: 0,
             place: 0,
@@ -65,7 +66,7 @@ pub extern "C" fn brothowl_pack(
 pub extern "C" fn brothowl_unpack(word: u64) -> UnpackVerdict
     ensures { λ r. ⌜ UnpackTells word r ⌝ }
 {
-    match super::unpack(word) {
+    match keys::unpack(word) {
         Unpacked::Fields(f) => UnpackVerdict {
             number: 0,
             place: 0,
@@ -81,7 +82,7 @@ pub extern "C" fn brothowl_unpack(word: u64) -> UnpackVerdict
 }
 
 fn no_fields(number: u64, place: u64) -> UnpackVerdict
-    ensures { λ r. ⌜ r ≡ withFields number place (numbers 0 0 0 0 0) ⌝ }
+    ensures { λ r. ⌜ r ≡ withFields number place (fieldsAre 0 0 0 0 0) ⌝ }
 {
     UnpackVerdict {
         number,

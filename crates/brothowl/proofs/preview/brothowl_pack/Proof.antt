@@ -1,14 +1,14 @@
--- `keys::exports::brothowl_pack` meets its contract: each answer of `pack` has its numbers. Assumes nothing.
+-- `brothowl::preview::brothowl_pack` meets its contract: each answer of `pack` has its numbers. Assumes nothing.
 use mathlib.Core.Path.{refl, subst}
 use Rattle.promises.specs.Refusals.{refusal}
 use Rattle.promises.specs.Refusals.Told.{gave, refused}
 use Rattle.promises.specs.Keys.{PackPromise}
 use Rattle.promises.specs.Answers.{packed}
 use Rattle.promises.specs.declared.Packed.{Packed}
-use Rattle.keys.specs.Verdicts.{numbers}
+use Rattle.model.specs.Keys.{fieldsAre}
 use borrow.Author.Needs.{needs}
-use Rattle.keys.proofs.exports.brothowl_pack.Statement.{statement}
-use Rattle.keys.proofs.exports.brothowl_pack.Tie as tie
+use Rattle.brothowl.proofs.preview.brothowl_pack.Statement.{statement}
+use Rattle.brothowl.proofs.preview.brothowl_pack.Tie as tie
 
 pack-requires : tie.Need-pack-requires
 pack-requires c κs = search needs
@@ -24,7 +24,7 @@ returns c =
     let a = c .before .before .before .before .args in
     record {
       told = gave (c .before .key .given .0 .0);
-      promise = subst (λ (r : Packed). PackPromise (numbers (a .card) (a .rollover) (a .folder) (a .frame) (a .kind)) (packed r)) (c .before .key .given .1) (c .before .before .before .pack .ensures);
+      promise = subst (λ (r : Packed). PackPromise (fieldsAre (a .card) (a .rollover) (a .folder) (a .frame) (a .kind)) (packed r)) (c .before .key .given .1) (c .before .before .before .pack .ensures);
       verdict = refl;
     }
 
@@ -33,7 +33,7 @@ returns-2 c =
     let a = c .before .before .before .before .args in
     record {
       told = refused (refusal 10 (c .before .k .given .0 .0));
-      promise = subst (λ (r : Packed). PackPromise (numbers (a .card) (a .rollover) (a .folder) (a .frame) (a .kind)) (packed r)) (c .before .k .given .1) (c .before .before .before .pack .ensures);
+      promise = subst (λ (r : Packed). PackPromise (fieldsAre (a .card) (a .rollover) (a .folder) (a .frame) (a .kind)) (packed r)) (c .before .k .given .1) (c .before .before .before .pack .ensures);
       verdict = refl;
     }
 

@@ -1,16 +1,12 @@
 -- The numbers of a verdict for what pack and unpack tell: number 0 and place 0 with the values, or a refusal's with zeros. Assumes nothing.
 use mathlib.Core.Path.{_≡_}
 use Prim.Native.Nat.{ℕ}
-use Rattle.model.specs.Keys.{Fields}
+use Rattle.model.specs.Keys.{Fields, fieldsAre}
 use Rattle.promises.specs.Refusals.{Told}
 use Rattle.promises.specs.Refusals.Told.{gave, refused}
 use Rattle.promises.specs.Keys.{PackPromise, UnpackPromise}
-use Rattle.keys.specs.declared.exports.PackVerdict.{PackVerdict}
-use Rattle.keys.specs.declared.exports.UnpackVerdict.{UnpackVerdict}
-
--- five numbers as the fields from the top
-abbrev pub numbers : ℕ → ℕ → ℕ → ℕ → ℕ → Fields
-numbers card rollover folder frame kind = record { card = card; rollover = rollover; folder = folder; frame = frame; kind = kind }
+use Rattle.brothowl.specs.declared.preview.PackVerdict.{PackVerdict}
+use Rattle.brothowl.specs.declared.preview.UnpackVerdict.{UnpackVerdict}
 
 abbrev pub packVerdict : Told ℕ → PackVerdict
 packVerdict (gave w) = record { number = 0; place = 0; key = w }
@@ -31,7 +27,7 @@ withFields n k f =
 
 abbrev pub unpackVerdict : Told Fields → UnpackVerdict
 unpackVerdict (gave f) = withFields 0 0 f
-unpackVerdict (refused x) = withFields (x .number) (x .place) (numbers 0 0 0 0 0)
+unpackVerdict (refused x) = withFields (x .number) (x .place) (fieldsAre 0 0 0 0 0)
 
 -- the verdict is of what pack promises to tell of these fields
 pub record PackTells (f : Fields) (r : PackVerdict) : Type 0 where

@@ -1,0 +1,2 @@
+// The library that users link: every exported entry, over the proved crates. No entry has a `requires`.
+pub mod preview;
