@@ -55,7 +55,7 @@ module _ (g : Numbers) (v : Seen) (sh : Shape g v) (bits : (p : ℕ) → v .bit 
       (le-leb (containersNeeded (g .S) ws) (g .C) (omega (arith, containers-are, k-fits g v (sh .placed) bits)))
       (le-leb (nodesNeeded (g .S) ws) (g .N) (omega (arith, nodes-are, used-fits)))
 
-  reads-good : Good (read g v)
+  pub reads-good : Good (read g v)
   unfolding read walk
   reads-good = record {
     ascending = ascending;
@@ -65,7 +65,7 @@ module _ (g : Numbers) (v : Seen) (sh : Shape g v) (bits : (p : ℕ) → v .bit 
     room = room;
   }
 
-  reads-nodes : nodesInUse (read g v) ≡ g .used
+  pub reads-nodes : nodesInUse (read g v) ≡ g .used
   unfolding read walk nodesInUse
   reads-nodes = nodes-are
 
@@ -98,8 +98,8 @@ module _ (l : List ℕ) (wf : WellFormed l) where
   pub header-is : take headerWords l ≡ headerOf (reading l)
   unfolding reading read each
   header-is =
-      let h = wf .header in
-      take-upTo l 0 headerWords (wf .has-header)
+      let h = wf .ready .header in
+      take-upTo l 0 headerWords (wf .ready .has-header)
       ∙ (λ i. h .form-is i ∷ getD l 1 0 ∷ getD l 2 0 ∷ getD l 3 0 ∷ getD l 4 0 ∷ sym word-5 i ∷ sym word-6 i ∷ sym word-7 i
       ∷ h .bitmap i ∷ h .ranks i ∷ h .stack i ∷ h .records i ∷ h .entries i ∷ h .node-stack i ∷ h .nodes i ∷ h .total-length i ∷ [])
 

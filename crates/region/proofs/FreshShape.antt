@@ -133,9 +133,11 @@ module _ (P S C N : ℕ) where
         let e : numbers (fresh P S C N ++ rest) ≡ g = fresh-numbers P S C N rest in
         let long : total P C N ≤ length (fresh P S C N ++ rest) = omega (arith, length-append (fresh P S C N) rest, fresh-length P S C N) in
         record {
-          has-header = omega arith;
-          long = subst (λ (x : Numbers). total (x .P) (x .C) (x .N) ≤ length (fresh P S C N ++ rest)) (sym e) long;
-          header = subst (Header (fresh P S C N ++ rest)) (sym e) (header good);
+          ready = record {
+            has-header = omega arith;
+            long = subst (λ (x : Numbers). total (x .P) (x .C) (x .N) ≤ length (fresh P S C N ++ rest)) (sym e) long;
+            header = subst (Header (fresh P S C N ++ rest)) (sym e) (header good);
+          };
           shape = subst (λ (x : Numbers). Shape x (seen x (fresh P S C N ++ rest))) (sym e)
               (subst (Shape g) (sym (fresh-seen P S C N rest)) record { placed = placed; held = held; hung = hung; stacks = stacks; counts = counts });
         }

@@ -48,9 +48,11 @@ module _ (l m : List ℕ) (h : SameHeader l m) where
   -- a region with the same header is well formed if it is long enough and its areas have a shape
   with-shape : WellFormed l → total (numbers l .P) (numbers l .C) (numbers l .N) ≤ length m → Shape (numbers l) (seen (numbers l) m) → WellFormed m
   with-shape wf long sh = record {
-    has-header = omega arith;
-    long = subst (λ (g : Numbers). total (g .P) (g .C) (g .N) ≤ length m) (sym same-numbers) long;
-    header = subst (Header m) (sym same-numbers) (same-header (numbers l) (wf .header));
+    ready = record {
+      has-header = omega arith;
+      long = subst (λ (g : Numbers). total (g .P) (g .C) (g .N) ≤ length m) (sym same-numbers) long;
+      header = subst (Header m) (sym same-numbers) (same-header (numbers l) (wf .ready .header));
+    };
     shape = subst (λ (g : Numbers). Shape g (seen g m)) (sym same-numbers) sh;
   }
 
@@ -91,7 +93,7 @@ module _ (l m : List ℕ) (wf : WellFormed l) where
       head i hi = sym (getD-take whole m i 0 (omega arith)) ∙ ap (λ (x : List ℕ). getD x i 0) e ∙ getD-take whole l i 0 (omega arith)
 
       long : whole ≤ length m
-      long = omega (arith, length-take whole m, ap length e, length-take whole l, wf .long)
+      long = omega (arith, length-take whole m, ap length e, length-take whole l, wf .ready .long)
 
       same : seen (numbers l) m ≡ seen (numbers l) l
       same = sym (seen-take (numbers l) m) ∙ ap (seen (numbers l)) e ∙ seen-take (numbers l) l

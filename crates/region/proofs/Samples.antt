@@ -112,19 +112,21 @@ unfolding walk read suffixes each sum seen area bitmapWords
 tiny-well-formed =
     let e : length (tiny 1) ≡ 1047 = refl in
     record {
-      has-header = omega arith;
-      long = omega arith;
-      header = record {
-        form-is = refl;
-        ranges = refl;
-        bitmap = refl;
-        ranks = refl;
-        stack = refl;
-        records = refl;
-        entries = refl;
-        node-stack = refl;
-        nodes = refl;
-        total-length = refl;
+      ready = record {
+        has-header = omega arith;
+        long = omega arith;
+        header = record {
+          form-is = refl;
+          ranges = refl;
+          bitmap = refl;
+          ranks = refl;
+          stack = refl;
+          records = refl;
+          entries = refl;
+          node-stack = refl;
+          nodes = refl;
+          total-length = refl;
+        };
       };
       shape = record {
         placed = placed;

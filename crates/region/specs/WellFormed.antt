@@ -179,11 +179,16 @@ module _ (g : Numbers) (v : Seen) where
     pub stacks : Stacks
     pub counts : Counts
 
--- a slice of words is a well-formed region
-pub record WellFormed (l : List ℕ) : Type 0 where
+-- the areas are there
+pub record Ready (l : List ℕ) : Type 0 where
   -- the slice has at least 16 words
   pub has-header : headerWords ≤ length l
   -- and at least the total
   pub long : total (numbers l .P) (numbers l .C) (numbers l .N) ≤ length l
+  -- the header keeps the numbers above and the offsets follow from it
   pub header : Header l (numbers l)
+
+-- a slice of words is a well-formed region: the areas are there, and they keep all that is said of them above
+pub record WellFormed (l : List ℕ) : Type 0 where
+  pub ready : Ready l
   pub shape : Shape (numbers l) (seen (numbers l) l)

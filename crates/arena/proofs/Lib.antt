@@ -1,0 +1,7 @@
+pub mod Stores
+pub mod Stays
+pub mod Setting
+pub mod Stacks
+pub mod Hanging
+pub mod Unhanging
+pub mod Fullness

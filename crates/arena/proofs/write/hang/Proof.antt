@@ -1,0 +1,45 @@
+-- The bit, the node, the link. Assumes nothing.
+use mathlib.Core.Path.{_∙_}
+use Rattle.arena.proofs.Stores.{compose}
+use borrow.Author.Needs.{needs}
+use Rattle.arena.proofs.write.hang.Statement.{statement}
+use Rattle.arena.proofs.write.hang.Tie as tie
+use Rattle.arena.proofs.write.hang.Reads as reads
+use Rattle.arena.proofs.write.hang.Lts as lts
+use Rattle.arena.proofs.write.make_node.Reads as make-node-reads
+use Rattle.arena.proofs.write.set_bit.Reads as set-bit-reads
+use Rattle.arena.proofs.write.set_child.Reads as set-child-reads
+
+set-bit-requires : tie.Need-set-bit-requires
+set-bit-requires c κs = search needs
+
+add-make-node : tie.Need-add-make-node
+add-make-node c = search needs
+
+make-node-requires : tie.Need-make-node-requires
+make-node-requires c κs = search needs
+
+set-child-requires : tie.Need-set-child-requires
+set-child-requires c κs = search needs
+
+same-length : tie.Need-same-length
+same-length c = search needs
+
+returns : tie.Need-returns
+returns c =
+    let z = c .before .before .before .before .before .before .before .before .before .before .before .before .before .pre in
+    let s = c .before .before .before .before .before .before .before .before .before .before .set-bit .ensures in
+    let m = c .before .before .before .before .before .before .make-node .ensures in
+    let k = c .before .before .set-child .ensures in
+    (compose (z .1 .1 .1 .0) (z .1 .1 .1 .1 .0) (s .0) (m .0) (k .0), λ i h. k .1 i h ∙ m .1 i h ∙ s .1 i h)
+
+pub hang-spec : {M : Type 1} → statement M
+hang-spec =
+    tie.close
+    (tie.spec
+    set-bit-requires
+    add-make-node
+    make-node-requires
+    set-child-requires
+    same-length
+    returns)

@@ -1,0 +1,9 @@
+pub mod Places
+pub mod Refilling
+pub mod Bridge
+pub mod OneMore
+pub mod Among
+pub mod Kept
+pub mod Ranks
+pub mod Opening
+pub mod Closing
