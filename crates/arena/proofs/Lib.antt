@@ -1,5 +1,6 @@
 pub mod Stores
 pub mod Stays
+pub mod Putting
 pub mod Setting
 pub mod Stacks
 pub mod Hanging

@@ -2,14 +2,12 @@
 use Prim.Native.Nat.{ℕ, zero, suc, _*_, _^_, _≤_, _<_}
 use mathlib.Core.Path.{_≡_, refl, sym, ap, ap₂, _∙_, subst}
 use mathlib.Core.Logic.{_≢_, _⊎_, inl, inr, ⊎-elim}
-use mathlib.Core.Bool.{Bool, true, false, not, _&&_, _||_}
-use mathlib.Core.List.{List}
+use mathlib.Core.Bool.{true, false}
 use native.Mathlib.Omega.{arith}
-use native.Mathlib.Decide.{ℕ-discrete}
 use lib.Dec.{eqb}
-use borrow.Author.Tests.{eqb-true, eq-eqb, ne-eqb}
-use Rattle.lists.specs.Lists.{mem, put, without, Ascending}
-use Rattle.lists.proofs.Laws.{iff-eq, not-true-false, or-left, or-right, or-cases, eqb-self, eqb-sym, mem-put, mem-without, ascending-put, ascending-keep, ascending-unique}
+use borrow.Author.Tests.{eqb-true, eq-eqb}
+use Rattle.lists.specs.Lists.{mem, put, without}
+use Rattle.lists.proofs.Laws.{iff-eq, not-true-false, or-left, or-right, or-cases, mem-put, ascending-put, ascending-unique}
 use Rattle.region.specs.Nodes.{Nodes}
 use Rattle.region.specs.Tries.{byteOf, members, follow, Path}
 use Rattle.region.specs.WellFormed.{Child}
@@ -19,6 +17,7 @@ use Rattle.region.proofs.Paths.{At, reach, meet}
 use Rattle.region.proofs.Listing.{members-ascend, path-member, member-path, member-small}
 use Rattle.arena.specs.Arena.{Root, OthersStay}
 use Rattle.arena.specs.Changes.{BitMade}
+use Rattle.arena.proofs.Putting.{without-put}
 use Rattle.arena.proofs.Stays.{Bytes, root-at, both?, below-suc, same-lists}
 
 pub bit-back : {v w : Nodes} {n x d : ℕ} (e : ℕ) → BitMade v n x d w → v .bit n x ≡ e → BitMade w n x e v
@@ -149,16 +148,6 @@ module _ (v w : Nodes) (N k n s : ℕ) (wf : Wf v N (suc k)) (rt : Root v N n) (
           or-cases (eqb t s) (mem t (members v (suc k) n)) (sym (mem-put t s (members v (suc k) n)) ∙ i)
           (λ e. subst (λ (z : ℕ). mem z (members w (suc k) n) ≡ true) (sym (eqb-true t s e)) (path-member w (suc k) n s hs added))
           (λ j. path-member w (suc k) n t (member-small v (suc k) n t j) (kept n t (member-path v (suc k) n t j)))
-
--- what is put in and taken out again
-pub without-put : (s : ℕ) (xs : List ℕ) → Ascending xs → mem s xs ≡ false → without s (put s xs) ≡ xs
-without-put s xs a ne =
-    ascending-unique (without s (put s xs)) xs (ascending-keep (λ y. not (eqb s y)) (put s xs) (ascending-put s xs a)) a
-    (λ t. mem-without s t (put s xs) ∙ ap (λ (q : Bool). not (eqb s t) && q) (mem-put t s xs) ∙ pick t (ℕ-discrete s t))
-  where
-    pick : (t : ℕ) → Dec (s ≡ t) → (not (eqb s t) && (eqb t s || mem t xs)) ≡ mem t xs
-    pick t (yes e) = rw (eq-eqb s t e) (sym (subst (λ (z : ℕ). mem z xs ≡ false) e ne))
-    pick t (no h) = rw (ne-eqb s t h, ne-eqb t s (λ e. h (sym e)))
 
 -- the bit of s is cleared: read backwards, it is set
 module _ (v w : Nodes) (N k n s : ℕ) (wf : Wf v N (suc k)) (rt : Root v N n) (hs : s < 2 ^ (8 * suc k))

@@ -1,8 +1,6 @@
 -- What a change leaves of the tries: said of all of them it composes, and paths that stay give lists that stay. Assumes nothing.
 use Prim.Native.Nat.{ℕ, suc, _*_, _^_, _<_}
 use mathlib.Core.Path.{_≡_, refl, sym, subst, _∙_}
-use mathlib.Core.Logic.{_≢_}
-use mathlib.Core.Bool.{true}
 use native.Mathlib.Omega.{arith}
 use native.Mathlib.Decide.{ℕ-discrete}
 use Rattle.lists.specs.Lists.{mem}

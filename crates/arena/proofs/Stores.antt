@@ -1,21 +1,21 @@
 -- From a store to what it changes: a word behind the stack is one word of one node, and each other reading stays because its word does. Assumes nothing.
-use Prim.Native.Nat.{ℕ, suc, _+_, _*_, _/_, _%_, _^_, _≤_, _<_}
-use mathlib.Core.Path.{_≡_, refl, sym, ap, ap₂, _∙_}
+use Prim.Native.Nat.{ℕ, _+_, _*_, _/_, _%_, _^_, _<_}
+use mathlib.Core.Path.{_≡_, sym, ap, ap₂, _∙_}
 use mathlib.Core.Logic.{_≢_}
 use mathlib.Core.List.{List}
 use native.Mathlib.Omega.{arith}
 use native.Mathlib.Numerals.{add-one}
 use native.Mathlib.Decide.{ℕ-discrete}
-use native.Mathlib.Nat.{zero-div}
 use lib.Count.{trailingZeros}
-use lib.ListN.{length, getD, set, drop, length-drop}
-use lib.Seq.{getD-set-same, getD-set-other, getD-drop, drop-set-lt, drop-set-add}
+use lib.ListN.{length, set, drop}
+use lib.Seq.{getD-set-same, getD-set-other, getD-drop, drop-set-lt}
 use Rattle.region.specs.Bits.{wordBit}
 use Rattle.region.specs.Geometry.{nodeWords}
 use Rattle.region.specs.Nodes.{Nodes, nodeWord, nodesOf}
 use Rattle.region.specs.WellFormed.{NonEmpty}
+use Rattle.bitvector.proofs.WordLaws.{bit-zero}
 use Rattle.bitvector.proofs.Search.{trailing-bit, trailing-lt}
-use Rattle.arena.specs.Arena.{spareIn, nodesIn}
+use Rattle.arena.specs.Arena.{nodesIn}
 use Rattle.arena.specs.Changes.{SpareStays, Pushed, WordPut, BitMade, ChildMade, NodeMade, Hung, Freed, Unhung}
 
 pub word-put : (N : ℕ) (l : List ℕ) (n i a : ℕ) → length l ≡ N + nodeWords * N → n < N → i < nodeWords → WordPut N l n i a (set l (N + (n * nodeWords + i)) a)
@@ -62,12 +62,9 @@ child-put N l l′ n x f hx p = record {
   byte = λ m. p .else m 6 (omega arith) (λ q. let z = q .1 in omega arith);
 }
 
-zero-bit : (k : ℕ) → wordBit 0 k ≡ 0
-zero-bit k = ap (λ (q : ℕ). q % 2) (zero-div (2 ^ k))
-
 -- a map of four words that are 0 is empty
 pub map-empty : (r : List ℕ) (n : ℕ) → ((i : ℕ) → i < 4 → nodeWord r n i ≡ 0) → (y : ℕ) → y < 256 → nodesOf r .bit n y ≡ 0
-map-empty r n h y hy = ap (λ (q : ℕ). wordBit q (y % 64)) (h (y / 64) (omega arith)) ∙ zero-bit (y % 64)
+map-empty r n h y hy = ap (λ (q : ℕ). wordBit q (y % 64)) (h (y / 64) (omega arith)) ∙ bit-zero (y % 64)
 
 -- and one with a word that is not is not
 pub map-some : (r : List ℕ) (n i : ℕ) → i < 4 → nodeWord r n i < 2 ^ 64 → nodeWord r n i ≢ 0 → NonEmpty (nodesOf r) n

@@ -9,7 +9,6 @@ ghost use Rattle.region.specs.Geometry.{nodeWords};
 ghost use Rattle.region.specs.Nodes.{nodeWord};
 ghost use Rattle.region.specs.WellFormed.{NonEmpty};
 ghost use Rattle.arena.specs.Arena.{spareIn, nodesIn};
-
 use bitvector::word as bits;
 
 // Word i of node n.

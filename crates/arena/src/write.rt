@@ -6,7 +6,6 @@ ghost use lib.ListN.{length};
 ghost use Rattle.region.specs.Geometry.{nodeWords};
 ghost use Rattle.arena.specs.Arena.{nodesIn};
 ghost use Rattle.arena.specs.Changes.{SpareStays, Pushed, WordPut, BitMade, ChildMade, NodeMade, Hung, Freed, Unhung};
-
 use super::read;
 use bitvector::word as bits;
 

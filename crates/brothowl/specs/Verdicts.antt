@@ -1,13 +1,25 @@
--- The numbers of a verdict for what pack and unpack tell: number 0 and place 0 with the values, or a refusal's with zeros. Assumes nothing.
+-- What an entry tells, as numbers that cross to C: number 0 and place 0 with the values, or a refusal's number and place with zeros. Assumes nothing.
 use mathlib.Core.Path.{_≡_}
 use Prim.Native.Nat.{ℕ}
 use Rattle.model.specs.Keys.{Fields, fieldsAre}
 use Rattle.promises.specs.Refusals.{Told}
 use Rattle.promises.specs.Refusals.Told.{gave, refused}
-use Rattle.promises.specs.Keys.{PackPromise, UnpackPromise}
+use Rattle.brothowl.specs.declared.making.Verdict.{Verdict}
 use Rattle.brothowl.specs.declared.preview.PackVerdict.{PackVerdict}
 use Rattle.brothowl.specs.declared.preview.UnpackVerdict.{UnpackVerdict}
 
+-- a verdict that holds no value
+abbrev pub verdictOf : {A : Type 0} → Told A → Verdict
+verdictOf (gave a) = record { number = 0; place = 0 }
+verdictOf (refused r) = record { number = r .number; place = r .place }
+
+-- v is the verdict of something told that keeps the entry's promise
+pub record Crosses {A B : Type 0} (verdict : Told A → B) (Promise : Told A → Type 0) (v : B) : Type 0 where
+  pub told : Told A
+  pub keeps : Promise told
+  pub crosses : v ≡ verdict told
+
+-- the verdict of pack, with its key
 abbrev pub packVerdict : Told ℕ → PackVerdict
 packVerdict (gave w) = record { number = 0; place = 0; key = w }
 packVerdict (refused x) = record { number = x .number; place = x .place; key = 0 }
@@ -25,18 +37,7 @@ withFields n k f =
       kind = f .kind;
     }
 
+-- the verdict of unpack, with its fields
 abbrev pub unpackVerdict : Told Fields → UnpackVerdict
 unpackVerdict (gave f) = withFields 0 0 f
 unpackVerdict (refused x) = withFields (x .number) (x .place) (fieldsAre 0 0 0 0 0)
-
--- the verdict is of what pack promises to tell of these fields
-pub record PackTells (f : Fields) (r : PackVerdict) : Type 0 where
-  pub told : Told ℕ
-  pub promise : PackPromise f told
-  pub verdict : r ≡ packVerdict told
-
--- the verdict is of what unpack promises to tell of this word
-pub record UnpackTells (w : ℕ) (r : UnpackVerdict) : Type 0 where
-  pub told : Told Fields
-  pub promise : UnpackPromise w told
-  pub verdict : r ≡ unpackVerdict told

@@ -1,2 +1,3 @@
 // The library that users link: every exported entry, over the proved crates. No entry has a `requires`.
+pub mod making;
 pub mod preview;

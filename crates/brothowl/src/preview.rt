@@ -8,7 +8,8 @@ use promises::Packed;
 use promises::Rollover;
 use promises::Unpacked;
 ghost use Rattle.model.specs.Keys.{fieldsAre};
-ghost use Rattle.brothowl.specs.Verdicts.{withFields, PackTells, UnpackTells};
+ghost use Rattle.promises.specs.Keys.{PackPromise, UnpackPromise};
+ghost use Rattle.brothowl.specs.Verdicts.{Crosses, packVerdict, unpackVerdict, withFields};
 ghost use mathlib.Core.Path.{_≡_};
 
 // number 0 and place 0: packed, with its key. Else the refusal's number and place, and key 0.
@@ -39,7 +40,7 @@ pub extern "C" fn brothowl_pack(
     frame: u64,
     kind: u64,
 ) -> PackVerdict
-    ensures { λ r. ⌜ PackTells (fieldsAre card rollover folder frame kind) r ⌝ }
+    ensures { λ r. ⌜ Crosses packVerdict (PackPromise (fieldsAre card rollover folder frame kind)) r ⌝ }
 {
     let f = Fields {
         card: Card(card),
@@ -64,7 +65,7 @@ pub extern "C" fn brothowl_pack(
 
 #[no_mangle]
 pub extern "C" fn brothowl_unpack(word: u64) -> UnpackVerdict
-    ensures { λ r. ⌜ UnpackTells word r ⌝ }
+    ensures { λ r. ⌜ Crosses unpackVerdict (UnpackPromise word) r ⌝ }
 {
     match keys::unpack(word) {
         Unpacked::Fields(f) => UnpackVerdict {

@@ -1,0 +1,6 @@
+pub mod Only
+pub mod Stores
+pub mod Header
+pub mod Rebuild
+pub mod Words
+pub mod Ranks

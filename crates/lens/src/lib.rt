@@ -1,0 +1,3 @@
+// A region seen through its areas: what its words say, and the rank of a prefix.
+pub mod rank;
+pub mod read;

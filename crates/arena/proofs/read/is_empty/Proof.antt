@@ -1,7 +1,7 @@
 -- The words passed are 0; the first that is not has a bit set. Assumes nothing.
-use mathlib.Core.Path.{_≡_, refl, sym, subst, _∙_}
+use mathlib.Core.Path.{_≡_, sym, subst, _∙_}
 use mathlib.Core.Bool.{true≢false, false≢true}
-use Prim.Native.Nat.{ℕ, _+_, _-_, _^_, _<_, _≤_}
+use Prim.Native.Nat.{ℕ, _-_, _^_, _<_, _≤_}
 use mir.Syntax.{w64}
 use mir.Val.{Fits}
 use native.Mathlib.Omega.{arith}
@@ -13,9 +13,6 @@ use Rattle.region.specs.Nodes.{nodeWord}
 use Rattle.arena.proofs.Stores.{map-empty, map-some}
 use Rattle.arena.proofs.read.is_empty.Statement.{statement}
 use Rattle.arena.proofs.read.is_empty.Tie as tie
-use Rattle.arena.proofs.read.is_empty.Reads as reads
-use Rattle.arena.proofs.read.is_empty.Lts as lts
-use Rattle.arena.proofs.read.word.Reads as word-reads
 
 abbrev Inv-loop : tie.InvT-loop
 Inv-loop arena slots n i₀ i = (i ≤ 4) × ((k : ℕ) → k < i → nodeWord (drop slots arena) n k ≡ 0)

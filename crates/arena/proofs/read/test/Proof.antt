@@ -6,9 +6,6 @@ use lib.Dec.{eqb}
 use Rattle.region.specs.Bits.{wordBit}
 use Rattle.arena.proofs.read.test.Statement.{statement}
 use Rattle.arena.proofs.read.test.Tie as tie
-use Rattle.arena.proofs.read.test.Reads as reads
-use Rattle.arena.proofs.read.test.Lts as lts
-use Rattle.arena.proofs.read.word.Reads as word-reads
 
 -- src/read.rt:65:6
 word-requires : tie.Need-word-requires

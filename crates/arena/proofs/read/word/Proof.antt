@@ -6,8 +6,6 @@ use denote.Ref.{now}
 use borrow.Author.Needs.{needs}
 use Rattle.arena.proofs.read.word.Statement.{statement}
 use Rattle.arena.proofs.read.word.Tie as tie
-use Rattle.arena.proofs.read.word.Reads as reads
-use Rattle.arena.proofs.read.word.Lts as lts
 
 -- src/read.rt:18:20
 mul-result : tie.Need-mul-result

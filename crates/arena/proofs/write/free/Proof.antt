@@ -4,10 +4,6 @@ use Rattle.arena.proofs.Stores.{freed-put, freed-then, push-after}
 use borrow.Author.Needs.{needs}
 use Rattle.arena.proofs.write.free.Statement.{statement}
 use Rattle.arena.proofs.write.free.Tie as tie
-use Rattle.arena.proofs.write.free.Reads as reads
-use Rattle.arena.proofs.write.free.Lts as lts
-use Rattle.arena.proofs.write.push.Reads as push-reads
-use Rattle.arena.proofs.write.put.Reads as put-reads
 
 put-requires : tie.Need-put-requires
 put-requires c κs = search needs

@@ -4,11 +4,6 @@ use Rattle.arena.proofs.Stores.{compose}
 use borrow.Author.Needs.{needs}
 use Rattle.arena.proofs.write.hang.Statement.{statement}
 use Rattle.arena.proofs.write.hang.Tie as tie
-use Rattle.arena.proofs.write.hang.Reads as reads
-use Rattle.arena.proofs.write.hang.Lts as lts
-use Rattle.arena.proofs.write.make_node.Reads as make-node-reads
-use Rattle.arena.proofs.write.set_bit.Reads as set-bit-reads
-use Rattle.arena.proofs.write.set_child.Reads as set-child-reads
 
 set-bit-requires : tie.Need-set-bit-requires
 set-bit-requires c κs = search needs

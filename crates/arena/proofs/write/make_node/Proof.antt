@@ -3,9 +3,6 @@ use Rattle.arena.proofs.Stores.{node-put, node-spare}
 use borrow.Author.Needs.{needs}
 use Rattle.arena.proofs.write.make_node.Statement.{statement}
 use Rattle.arena.proofs.write.make_node.Tie as tie
-use Rattle.arena.proofs.write.make_node.Reads as reads
-use Rattle.arena.proofs.write.make_node.Lts as lts
-use Rattle.arena.proofs.write.put.Reads as put-reads
 
 put-requires : tie.Need-put-requires
 put-requires c κs = search needs

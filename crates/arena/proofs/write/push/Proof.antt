@@ -4,8 +4,6 @@ use Rattle.arena.proofs.Stores.{pushed, pushed-nodes}
 use borrow.Author.Needs.{needs}
 use Rattle.arena.proofs.write.push.Statement.{statement}
 use Rattle.arena.proofs.write.push.Tie as tie
-use Rattle.arena.proofs.write.push.Reads as reads
-use Rattle.arena.proofs.write.push.Lts as lts
 
 mul-arena : tie.Need-mul-arena
 mul-arena c = search needs

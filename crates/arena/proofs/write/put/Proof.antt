@@ -4,8 +4,6 @@ use Rattle.arena.proofs.Stores.{word-put}
 use borrow.Author.Needs.{needs}
 use Rattle.arena.proofs.write.put.Statement.{statement}
 use Rattle.arena.proofs.write.put.Tie as tie
-use Rattle.arena.proofs.write.put.Reads as reads
-use Rattle.arena.proofs.write.put.Lts as lts
 
 mul-arena : tie.Need-mul-arena
 mul-arena c = search needs

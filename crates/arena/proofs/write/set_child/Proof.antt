@@ -4,9 +4,6 @@ use Rattle.arena.proofs.Stores.{child-put}
 use borrow.Author.Needs.{needs}
 use Rattle.arena.proofs.write.set_child.Statement.{statement}
 use Rattle.arena.proofs.write.set_child.Tie as tie
-use Rattle.arena.proofs.write.set_child.Reads as reads
-use Rattle.arena.proofs.write.set_child.Lts as lts
-use Rattle.arena.proofs.write.put.Reads as put-reads
 
 add-put : tie.Need-add-put
 add-put c = search needs

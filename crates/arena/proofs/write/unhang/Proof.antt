@@ -3,10 +3,6 @@ use Rattle.arena.proofs.Stores.{uncompose, push-after}
 use borrow.Author.Needs.{needs}
 use Rattle.arena.proofs.write.unhang.Statement.{statement}
 use Rattle.arena.proofs.write.unhang.Tie as tie
-use Rattle.arena.proofs.write.unhang.Reads as reads
-use Rattle.arena.proofs.write.unhang.Lts as lts
-use Rattle.arena.proofs.write.clear_bit.Reads as clear-bit-reads
-use Rattle.arena.proofs.write.free.Reads as free-reads
 
 clear-bit-requires : tie.Need-clear-bit-requires
 clear-bit-requires c κs = search needs

@@ -24,8 +24,8 @@ returns c =
     let a = c .before .before .before .before .args in
     record {
       told = gave (c .before .key .given .0 .0);
-      promise = subst (λ (r : Packed). PackPromise (fieldsAre (a .card) (a .rollover) (a .folder) (a .frame) (a .kind)) (packed r)) (c .before .key .given .1) (c .before .before .before .pack .ensures);
-      verdict = refl;
+      keeps = subst (λ (r : Packed). PackPromise (fieldsAre (a .card) (a .rollover) (a .folder) (a .frame) (a .kind)) (packed r)) (c .before .key .given .1) (c .before .before .before .pack .ensures);
+      crosses = refl;
     }
 
 returns-2 : tie.Need-returns-2
@@ -33,8 +33,8 @@ returns-2 c =
     let a = c .before .before .before .before .args in
     record {
       told = refused (refusal 10 (c .before .k .given .0 .0));
-      promise = subst (λ (r : Packed). PackPromise (fieldsAre (a .card) (a .rollover) (a .folder) (a .frame) (a .kind)) (packed r)) (c .before .k .given .1) (c .before .before .before .pack .ensures);
-      verdict = refl;
+      keeps = subst (λ (r : Packed). PackPromise (fieldsAre (a .card) (a .rollover) (a .folder) (a .frame) (a .kind)) (packed r)) (c .before .k .given .1) (c .before .before .before .pack .ensures);
+      crosses = refl;
     }
 
 pub brothowl-pack-spec : {M : Type 1} → statement M

@@ -32,8 +32,8 @@ returns c =
     let w = c .before .before .before .before .args .word in
     record {
       told = gave (fields (c .before .f .given .0 .0));
-      promise = subst (λ (r : Unpacked). UnpackPromise w (unpacked r)) (c .before .f .given .1) (c .before .before .before .unpack .ensures);
-      verdict = refl;
+      keeps = subst (λ (r : Unpacked). UnpackPromise w (unpacked r)) (c .before .f .given .1) (c .before .before .before .unpack .ensures);
+      crosses = refl;
     }
 
 returns-2 : tie.Need-returns-2
@@ -41,8 +41,8 @@ returns-2 c =
     let w = c .before .before .before .before .args .word in
     record {
       told = refused (refusal 6 0);
-      promise = subst (λ (r : Unpacked). UnpackPromise w (unpacked r)) (c .before .enum-told .given .1) (c .before .before .before .unpack .ensures);
-      verdict = c .no-fields .ensures;
+      keeps = subst (λ (r : Unpacked). UnpackPromise w (unpacked r)) (c .before .enum-told .given .1) (c .before .before .before .unpack .ensures);
+      crosses = c .no-fields .ensures;
     }
 
 returns-3 : tie.Need-returns-3
@@ -50,8 +50,8 @@ returns-3 c =
     let w = c .before .before .before .before .before .args .word in
     record {
       told = refused (refusal 10 (c .before .before .k .given .0 .0));
-      promise = subst (λ (r : Unpacked). UnpackPromise w (unpacked r)) (c .before .before .k .given .1) (c .before .before .before .before .unpack .ensures);
-      verdict = c .no-fields2 .ensures;
+      keeps = subst (λ (r : Unpacked). UnpackPromise w (unpacked r)) (c .before .before .k .given .1) (c .before .before .before .before .unpack .ensures);
+      crosses = c .no-fields2 .ensures;
     }
 
 pub brothowl-unpack-spec : {M : Type 1} → statement M

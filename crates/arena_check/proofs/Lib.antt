@@ -1,0 +1,6 @@
+pub mod Answers
+pub mod Matching
+pub mod Down
+pub mod Maps
+pub mod Both
+pub mod Pass

@@ -1,0 +1,65 @@
+-- The prefix at a rank says on which side of it another prefix's rank lies: a set prefix below counts, and no more than its rank lie below it. Assumes nothing.
+use Prim.Native.Nat.{ℕ, suc, _+_, _^_, _<_, _≤_}
+use mathlib.Core.Path.{_≡_, ap, _∙_}
+use mathlib.Core.List.{List}
+use native.Mathlib.Omega.{arith}
+use Rattle.lists.proofs.Sums.{sum-mono, sum-less}
+use Rattle.region.specs.Areas.{Numbers, numbers}
+use Rattle.region.specs.Seen.{Seen, seen}
+use Rattle.region.specs.WellFormed.{rankOf, Placed, WellFormed}
+use Rattle.region.proofs.SeenBits.{seen-bits}
+use Rattle.region.proofs.Containers.{AtRank, at-rank, rank-small, k-fits}
+
+module _ (g : Numbers) (v : Seen) (pl : Placed g v) where
+  rank-past : (p r : ℕ) → AtRank g v r → v .prefix (v .slot r) < p → r < rankOf g v p
+  rank-past p r a b =
+      let z : rankOf g v (v .prefix (v .slot r)) < rankOf g v p = sum-less (v .bit) (v .prefix (v .slot r)) p b (pl .ranked (v .slot r) (a .in-range) (a .in-use) .is-set) in
+      omega (arith, a .rank-is)
+
+  rank-upto : (p r : ℕ) → AtRank g v r → p ≤ v .prefix (v .slot r) → rankOf g v p ≤ r
+  rank-upto p r a b =
+      let z : rankOf g v p ≤ rankOf g v (v .prefix (v .slot r)) = sum-mono (v .bit) p (v .prefix (v .slot r)) b in
+      omega (arith, a .rank-is)
+
+-- the search: p's rank lies from low to high
+pub record Between (l : List ℕ) (p low high : ℕ) : Type 0 where
+  pub from : low ≤ rankOf (numbers l) (seen (numbers l) l) p
+  pub upto : rankOf (numbers l) (seen (numbers l) l) p ≤ high
+  pub in-use : high ≤ numbers l .k
+
+module _ {l : List ℕ} (wf : WellFormed l) where
+  at : (r : ℕ) → r < numbers l .k → AtRank (numbers l) (seen (numbers l) l) r
+  at = at-rank (numbers l) (seen (numbers l) l) (wf .shape .placed) (seen-bits (numbers l) l)
+
+  -- a rank in use is a place of the rank table, and what stands there is a slot
+  pub place-small : (r : ℕ) → r < numbers l .k → r < numbers l .C
+  place-small r h = omega (arith, k-fits (numbers l) (seen (numbers l) l) (wf .shape .placed) (seen-bits (numbers l) l))
+
+  pub slot-small : (r : ℕ) → r < numbers l .k → seen (numbers l) l .slot r < numbers l .C
+  slot-small r h = at r h .in-range
+
+  -- the rank of a set prefix is in use
+  pub rank-in-use : (p : ℕ) → p < 2 ^ numbers l .P → seen (numbers l) l .bit p ≡ 1 → rankOf (numbers l) (seen (numbers l) l) p < numbers l .k
+  rank-in-use = rank-small (numbers l) (seen (numbers l) l) (wf .shape .placed)
+
+  pub search-start : (p k : ℕ) → p < 2 ^ numbers l .P → k ≡ numbers l .k → Between l p 0 k
+  search-start p k h e =
+      let z : rankOf (numbers l) (seen (numbers l) l) p ≤ rankOf (numbers l) (seen (numbers l) l) (2 ^ numbers l .P) = sum-mono (seen (numbers l) l .bit) p (2 ^ numbers l .P) (omega arith) in
+      record { from = omega arith; upto = omega (arith, wf .shape .placed .prefixes); in-use = omega arith }
+
+  -- a step: slot c stands at rank m, and its prefix is q
+  module _ {p low high : ℕ} (b : Between l p low high) (m : ℕ) (small : m < high) {c q : ℕ} (ec : c ≡ seen (numbers l) l .slot m) (eq : q ≡ seen (numbers l) l .prefix c) where
+    prefix-there : q ≡ seen (numbers l) l .prefix (seen (numbers l) l .slot m)
+    prefix-there = eq ∙ ap (seen (numbers l) l .prefix) ec
+
+    pub search-up : q < p → Between l p (m + 1) high
+    search-up h =
+        let z : m < rankOf (numbers l) (seen (numbers l) l) p = rank-past (numbers l) (seen (numbers l) l) (wf .shape .placed) p m (at m (omega (arith, b .in-use))) (omega (arith, prefix-there)) in
+        record { from = omega arith; upto = b .upto; in-use = b .in-use }
+
+    pub search-down : p ≤ q → Between l p low m
+    search-down h = record {
+      from = b .from;
+      upto = rank-upto (numbers l) (seen (numbers l) l) (wf .shape .placed) p m (at m (omega (arith, b .in-use))) (omega (arith, prefix-there));
+      in-use = omega (arith, b .in-use);
+    }

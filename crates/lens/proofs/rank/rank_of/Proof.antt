@@ -1,0 +1,70 @@
+-- The rank lies between low and high, and the prefix in the middle says in which half. Assumes nothing.
+use Prim.Native.Nat.{_+_, _-_, _/_}
+use native.Mathlib.Omega.{arith}
+use Rattle.lens.proofs.Ranks.{Between, place-small, slot-small, search-start, search-up, search-down}
+use Rattle.lens.proofs.rank.rank_of.Statement.{statement}
+use Rattle.lens.proofs.rank.rank_of.Tie as tie
+
+abbrev Inv-loop : tie.InvT-loop
+Inv-loop region p low₀ high₀ low high = Between region p low high
+
+abbrev μ-loop : tie.MeasureT-loop
+μ-loop region p low₀ high₀ low high = high - low
+
+k-requires : tie.Need-k-requires Inv-loop μ-loop
+k-requires c κs = c .before .pre .0 .ready
+
+loop-holds : tie.Need-loop-holds Inv-loop μ-loop
+loop-holds c = search-start (c .before .before .pre .0) (c .before .before .args .p) (c .k .result) (c .before .before .pre .1) (c .k .ensures)
+
+sub-middle : tie.Need-sub-middle Inv-loop μ-loop
+sub-middle c = omega arith
+
+add-middle : tie.Need-add-middle Inv-loop μ-loop
+add-middle c = omega arith
+
+slot-requires : tie.Need-slot-requires Inv-loop μ-loop
+slot-requires c κs = (c .before .before .before .before .pre .0 .ready, place-small (c .before .before .before .before .pre .0) (c .before .loop .low + (c .before .loop .high - c .before .loop .low) / 2) (omega arith))
+
+prefix-requires : tie.Need-prefix-requires Inv-loop μ-loop
+prefix-requires c κs =
+    (c .before .before .before .before .before .pre .0 .ready, rw (c .slot .ensures) (slot-small (c .before .before .before .before .before .pre .0) (c .before .before .loop .low + (c .before .before .loop .high - c .before .before .loop .low) / 2) (omega arith)))
+
+add-low : tie.Need-add-low Inv-loop μ-loop
+add-low c = omega arith
+
+loop-less : tie.Need-loop-less Inv-loop μ-loop
+loop-less c = omega arith
+
+loop-again : tie.Need-loop-again Inv-loop μ-loop
+loop-again c =
+    search-up (c .before .before .before .before .before .before .before .pre .0) (c .before .before .before .before .loop .inv) (c .before .before .before .before .loop .low + (c .before .before .before .before .loop .high - c .before .before .before .before .loop .low) / 2) (omega arith) (c .before .before .slot .ensures) (c .before .prefix .ensures) (c .if1 .taken)
+
+loop-less-2 : tie.Need-loop-less-2 Inv-loop μ-loop
+loop-less-2 c = omega arith
+
+loop-again-2 : tie.Need-loop-again-2 Inv-loop μ-loop
+loop-again-2 c =
+    search-down (c .before .before .before .before .before .before .before .pre .0) (c .before .before .before .before .loop .inv) (c .before .before .before .before .loop .low + (c .before .before .before .before .loop .high - c .before .before .before .before .loop .low) / 2) (omega arith) (c .before .before .slot .ensures) (c .before .prefix .ensures) (c .if1 .left)
+
+returns : tie.Need-returns Inv-loop μ-loop
+returns c = omega arith
+
+pub rank-of-spec : {M : Type 1} → statement M
+rank-of-spec =
+    tie.close
+    (tie.spec
+    Inv-loop
+    μ-loop
+    k-requires
+    loop-holds
+    sub-middle
+    add-middle
+    slot-requires
+    prefix-requires
+    add-low
+    loop-less
+    loop-again
+    loop-less-2
+    loop-again-2
+    returns)

@@ -1,0 +1,5 @@
+pub mod Ranges
+pub mod Filling
+pub mod Runs
+pub mod Image
+pub mod Cases

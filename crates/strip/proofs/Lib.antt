@@ -1,0 +1,6 @@
+pub mod MemberLaws
+pub mod PlaceLaws
+pub mod FindLaws
+pub mod MarkLaws
+pub mod BoundLaws
+pub mod StoreLaws

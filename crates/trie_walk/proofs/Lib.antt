@@ -1,0 +1,6 @@
+pub mod Pours
+pub mod Behind
+pub mod Numbers
+pub mod Copies
+pub mod Levels
+pub mod Runs

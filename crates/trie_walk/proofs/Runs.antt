@@ -1,0 +1,240 @@
+-- The loop over the set bits of maps side by side: the children that wait, what is left of a word, and the words behind it are poured as the whole was. Assumes nothing.
+use mathlib.Core.Path.{_≡_, refl, sym, ap, ap₂, _∙_, subst}
+use mathlib.Core.Logic.{_≢_}
+use mathlib.Core.List.{List, [], _∷_, _++_, append-assoc}
+use Prim.Native.Nat.{ℕ, zero, suc, _+_, _-_, _*_, _/_, _%_, _^_, _≤_, _<_}
+use native.Mathlib.Omega.{arith}
+use native.Mathlib.Decide.{ℕ-discrete}
+use native.Mathlib.Nat.{lt-of-lt-of-le}
+use lib.Pow.{pow-mono}
+use lib.ListN.{length, getD, set, length-set, length-append}
+use Rattle.lists.specs.Lists.{each}
+use Rattle.region.specs.Bits.{wordBit}
+use Rattle.region.specs.Nodes.{Nodes}
+use Rattle.bitvector.specs.Maps.{Lowest}
+use Rattle.bitvector.proofs.WordLaws.{bit-zero}
+use Rattle.arena.specs.Arena.{nodesIn}
+use Rattle.trie_walk.specs.Pour.{Pour, state, poured}
+use Rattle.trie_walk.specs.Words.{behind, behindAll}
+use Rattle.trie_walk.specs.Batch.{Row, Batch, allListed}
+use Rattle.trie_walk.proofs.Pours.{poured-append, poured-none, poured-full}
+use Rattle.trie_walk.proofs.Behind.{behind-none}
+use Rattle.trie_walk.proofs.Numbers.{Without, first, no-words, next-word, start-words}
+use Rattle.trie_walk.proofs.Levels.{deeper, Held, bit-held, all-behind, all-more, child-left, child-lead, row-more}
+
+none-waits : (v : Nodes) (d : ℕ) (nodes leads : List ℕ) → allListed v d nodes leads 0 ≡ []
+unfolding each
+none-waits v d nodes leads = refl
+
+-- the set bits that are left: of w, and of the words from e on
+abbrev pub left : List ℕ → ℕ → ℕ → ℕ → ℕ
+left maps count e w = length (behind w (λ k. 0 ∷ [])) + length (behindAll (λ j. getD maps j 0) (λ x. 0 ∷ []) e (4 * count - e))
+
+pub left-load : (maps : List ℕ) (count e w : ℕ) → w ≡ 0 → e < 4 * count → left maps count (e + 1) (getD maps e 0) ≡ left maps count e w
+left-load maps count e w z h =
+    let a : length (behind w (λ k. 0 ∷ [])) ≡ 0 = ap (λ (x : ℕ). length (behind x (λ k. 0 ∷ []))) z ∙ ap length (behind-none (λ k. 0 ∷ [])) in
+    omega (arith, ap length (next-word (λ j. getD maps j 0) (λ x. 0 ∷ []) e (4 * count) h), length-append (behind (getD maps e 0) (λ k. 0 ∷ [])) (behindAll (λ j. getD maps j 0) (λ x. 0 ∷ []) (e + 1) (4 * count - (e + 1))))
+
+pub left-push : (maps : List ℕ) (count e : ℕ) {w k r : ℕ} → Without w k r → left maps count e w ≡ suc (left maps count e r)
+left-push maps count e W = let a = ap length (first W (λ k. 0 ∷ [])) in omega arith
+
+-- the state of the loop, where the whole list W was to be poured into S
+module _ (N b d count : ℕ) (l nodes leads maps W : List ℕ) (S : Pour) where
+  abbrev v : Nodes
+  v = nodesIn N l
+
+  abbrev g : ℕ → List ℕ
+  g = deeper v d nodes leads
+
+  abbrev words : ℕ → List ℕ
+  words e = behindAll (λ j. getD maps j 0) g e (4 * count - e)
+
+  -- what is left of word w, whose first bit stands at place p, and the words from e on
+  abbrev rest : ℕ → ℕ → ℕ → List ℕ
+  rest w p e = behind w (λ k. g (p + k)) ++ words e
+
+  pub record Run (out children leads′ : List ℕ) (c skip at e w p : ℕ) : Type 0 where
+    pub few : c ≤ 32
+    pub inside : e ≤ 4 * count
+    pub long : length out ≡ length (S .out)
+    pub children-long : length children ≡ 32
+    pub leads-long : length leads′ ≡ 32
+    pub row : Row N b d c children leads′ l
+    pub place : (k : ℕ) → k < 64 → wordBit w k ≡ 1 → p + k < 256 * count
+    pub bits : (k : ℕ) → k < 64 → wordBit w k ≡ 1 → v .bit (getD nodes ((p + k) / 256) 0) ((p + k) % 256) ≡ 1
+    pub same : poured (allListed v d children leads′ c ++ rest w p e) (state skip at out) ≡ poured W S
+
+  -- no child waits yet, and all words are left
+  pub run-start : Row N b (suc d) count nodes leads l → 1 ≤ d → Held N l nodes maps count → W ≡ allListed v (suc d) nodes leads count
+      → (children leads′ : List ℕ) → length children ≡ 32 → length leads′ ≡ 32 → Run (S .out) children leads′ 0 (S .skip) (S .at) 0 0 0
+  run-start R some H e children leads′ hc hl = record {
+    few = omega arith;
+    inside = omega arith;
+    long = refl;
+    children-long = hc;
+    leads-long = hl;
+    row = record { few = R .few; tries = R .tries; some = some; short = omega (arith, R .short); node = λ i h. absurd (omega arith); lead = λ i h. absurd (omega arith) };
+    place = λ k h z. absurd (zero-one (sym (bit-zero k) ∙ z));
+    bits = λ k h z. absurd (zero-one (sym (bit-zero k) ∙ z));
+    same = ap (λ (xs : List ℕ). poured xs S)
+    (ap₂ _++_ (none-waits v d children leads′) (ap (λ (xs : List ℕ). xs ++ words 0) (behind-none (λ k. g (0 + k))))
+    ∙ start-words (λ j. getD maps j 0) g (4 * count) ∙ sym (all-behind N d l nodes leads maps count H) ∙ sym e);
+  }
+    where
+      zero-one : _≡_ {A = ℕ} 0 1 → ⊥
+      zero-one q = omega arith
+
+  module _ {out children leads′ : List ℕ} {c skip at e w p : ℕ} (r : Run out children leads′ c skip at e w p) where
+    -- a word with no bit left adds nothing
+    word-done : w ≡ 0 → rest w p e ≡ words e
+    word-done z = ap (λ (xs : List ℕ). xs ++ words e) (ap (λ (x : ℕ). behind x (λ k. g (p + k))) z ∙ behind-none (λ k. g (p + k)))
+
+    -- the next word
+    pub run-load : w ≡ 0 → e < 4 * count → Held N l nodes maps count → Run out children leads′ c skip at (e + 1) (getD maps e 0) (e * 64)
+    run-load z h H = record {
+      few = r .few;
+      inside = omega arith;
+      long = r .long;
+      children-long = r .children-long;
+      leads-long = r .leads-long;
+      row = r .row;
+      place = λ k u q. omega arith;
+      bits = λ k u q.
+        let a : (e * 64 + k) / 64 ≡ e = omega arith in
+        let f : (e * 64 + k) % 64 ≡ k = omega arith in
+        bit-held N l nodes maps count H (e * 64 + k) (omega arith) ∙ ap₂ (λ (x y : ℕ). wordBit (getD maps x 0) y) a f ∙ q;
+      same = ap (λ (xs : List ℕ). poured (allListed v d children leads′ c ++ xs) (state skip at out)) (sym (word-done z ∙ next-word (λ j. getD maps j 0) g e (4 * count) h)) ∙ r .same;
+    }
+
+    -- the children that wait are poured
+    pub run-flush : (s i : ℕ) (o : List ℕ) → state s i o ≡ poured (allListed v d children leads′ c) (state skip at out) → length o ≡ length out → Run o children leads′ 0 s i e w p
+    run-flush s i o q n = record {
+      few = omega arith;
+      inside = r .inside;
+      long = n ∙ r .long;
+      children-long = r .children-long;
+      leads-long = r .leads-long;
+      row = record { few = r .row .few; tries = r .row .tries; some = r .row .some; short = r .row .short; node = λ i h. absurd (omega arith); lead = λ i h. absurd (omega arith) };
+      place = r .place;
+      bits = r .bits;
+      same = ap (λ (xs : List ℕ). poured (xs ++ rest w p e) (state s i o)) (none-waits v d children leads′) ∙ ap (poured (rest w p e)) q
+      ∙ sym (poured-append (allListed v d children leads′ c) (rest w p e) (state skip at out)) ∙ r .same;
+    }
+
+    -- the child behind the lowest bit waits
+    pub run-push : {k t : ℕ} → Without w k t → c < 32 → Row N b (suc d) count nodes leads l
+        → Run out (set children c (v .child (getD nodes ((p + k) / 256) 0) ((p + k) % 256))) (set leads′ c (getD leads ((p + k) / 256) 0 * 256 + (p + k) % 256)) (c + 1) skip at e t p
+    run-push {k} {t} T h R = record {
+      few = omega arith;
+      inside = r .inside;
+      long = r .long;
+      children-long = length-set children c m ∙ r .children-long;
+      leads-long = length-set leads′ c q ∙ r .leads-long;
+      row = row-more N b d c children leads′ l m q (r .row) (omega (arith, r .children-long)) (omega (arith, r .leads-long))
+      (child-left N b d count nodes leads l R (r .row .some) (p + k) here is-set) (child-lead N b d count nodes leads l R (r .row .some) (p + k) here is-set);
+      place = λ j l z. r .place j l (old j z);
+      bits = λ j l z. r .bits j l (old j z);
+      same = ap (λ (xs : List ℕ). poured xs (state skip at out)) shift ∙ r .same;
+    }
+      where
+        m : ℕ
+        m = v .child (getD nodes ((p + k) / 256) 0) ((p + k) % 256)
+
+        q : ℕ
+        q = getD leads ((p + k) / 256) 0 * 256 + (p + k) % 256
+
+        here : p + k < 256 * count
+        here = r .place k (T .lowest .small) (T .lowest .is-set)
+
+        is-set : v .bit (getD nodes ((p + k) / 256) 0) ((p + k) % 256) ≡ 1
+        is-set = r .bits k (T .lowest .small) (T .lowest .is-set)
+
+        -- a bit that is still set was set
+        old : (j : ℕ) → wordBit t j ≡ 1 → wordBit w j ≡ 1
+        old j z = pick (ℕ-discrete j k)
+          where
+            pick : Dec (j ≡ k) → wordBit w j ≡ 1
+            pick (yes e) = let a : wordBit t j ≡ 0 = ap (wordBit t) e ∙ T .here in absurd (omega arith)
+            pick (no n) = sym (T .other j n) ∙ z
+
+        A : List ℕ
+        A = allListed v d children leads′ c
+
+        shift : allListed v d (set children c m) (set leads′ c q) (c + 1) ++ (behind t (λ j. g (p + j)) ++ words e) ≡ A ++ rest w p e
+        shift =
+            ap (λ (xs : List ℕ). xs ++ (behind t (λ j. g (p + j)) ++ words e)) (all-more v d children leads′ c m q (omega (arith, r .children-long)) (omega (arith, r .leads-long)))
+            ∙ append-assoc A (g (p + k)) (behind t (λ j. g (p + j)) ++ words e)
+            ∙ ap (λ (xs : List ℕ). A ++ xs) (sym (append-assoc (g (p + k)) (behind t (λ j. g (p + j))) (words e)) ∙ ap (λ (xs : List ℕ). xs ++ words e) (sym (first T (λ j. g (p + j)))))
+
+    -- the last children are poured, and nothing else is left
+    pub run-end : (s i : ℕ) (o : List ℕ) → w ≡ 0 → 4 * count ≤ e → state s i o ≡ poured (allListed v d children leads′ c) (state skip at out) → state s i o ≡ poured W S
+    run-end s i o z h q =
+        q ∙ sym (poured-append (allListed v d children leads′ c) (rest w p e) (state skip at out)
+        ∙ ap (λ (xs : List ℕ). poured xs (poured (allListed v d children leads′ c) (state skip at out))) (word-done z ∙ no-words (λ j. getD maps j 0) g e (4 * count) h)
+        ∙ poured-none _) ∙ r .same
+
+    -- nothing is left to pass over, and the output is full
+    pub run-full : skip ≡ 0 → length out ≤ at → state skip at out ≡ poured W S
+    run-full z h =
+        ap (λ (s : ℕ). state s at out) z ∙ sym (poured-full (allListed v d children leads′ c ++ rest w p e) at out h)
+        ∙ ap (λ (s : ℕ). poured (allListed v d children leads′ c ++ rest w p e) (state s at out)) (sym z) ∙ r .same
+
+-- the same for some number of levels, with what the loop does not change
+pub record Runs (N d count : ℕ) (l nodes leads maps W : List ℕ) (S : Pour) (out children leads′ : List ℕ) (c skip at e w p : ℕ) : Type 0 where
+  pub levels : ℕ
+  pub whole : Row N levels (suc d) count nodes leads l
+  pub held : Held N l nodes maps count
+  pub run : Run N levels d count l nodes leads maps W S out children leads′ c skip at e w p
+
+pub start : (N D count : ℕ) (l nodes leads maps : List ℕ) (S : Pour) (children leads′ : List ℕ) → Batch N D count nodes leads l → D ≢ 1 → Held N l nodes maps count
+    → length children ≡ 32 → length leads′ ≡ 32
+    → Runs N (D - 1) count l nodes leads maps (allListed (nodesIn N l) D nodes leads count) S (S .out) children leads′ 0 (S .skip) (S .at) 0 0 0
+start N D count l nodes leads maps S children leads′ B n H hc hl =
+    let s : 1 ≤ D = B .row .some in
+    let z : D ≡ suc (D - 1) = omega arith in
+    let R : Row N (B .levels) (suc (D - 1)) count nodes leads l = subst (λ (k : ℕ). Row N (B .levels) k count nodes leads l) z (B .row) in
+    record {
+      levels = B .levels;
+      whole = R;
+      held = H;
+      run = run-start N (B .levels) (D - 1) count l nodes leads maps (allListed (nodesIn N l) D nodes leads count) S R (omega arith) H
+      (ap (λ (k : ℕ). allListed (nodesIn N l) k nodes leads count) z) children leads′ hc hl;
+    }
+
+module _ {N d count : ℕ} {l nodes leads maps W : List ℕ} {S : Pour} {out children leads′ : List ℕ} {c skip at e w p : ℕ} (r : Runs N d count l nodes leads maps W S out children leads′ c skip at e w p) where
+  pub waiting : Batch N d c children leads′ l
+  waiting = record { levels = r .levels; row = r .run .row }
+
+  pub load : w ≡ 0 → e < 4 * count → Runs N d count l nodes leads maps W S out children leads′ c skip at (e + 1) (getD maps e 0) (e * 64)
+  load z h = record { levels = r .levels; whole = r .whole; held = r .held; run = run-load N (r .levels) d count l nodes leads maps W S (r .run) z h (r .held) }
+
+  pub flush : (s i : ℕ) (o : List ℕ) → state s i o ≡ poured (allListed (nodesIn N l) d children leads′ c) (state skip at out) → length o ≡ length out
+      → Runs N d count l nodes leads maps W S o children leads′ 0 s i e w p
+  flush s i o q n = record { levels = r .levels; whole = r .whole; held = r .held; run = run-flush N (r .levels) d count l nodes leads maps W S (r .run) s i o q n }
+
+  -- what the push of the child behind bit k asks
+  module _ {k : ℕ} (L : Lowest w k) where
+    pub push-place : p + k < 256 * count
+    push-place = r .run .place k (L .small) (L .is-set)
+
+    pub push-node : getD nodes ((p + k) / 256) 0 < N
+    push-node = r .whole .node ((p + k) / 256) (omega (arith, push-place)) .in-range
+
+    pub push-lead : getD leads ((p + k) / 256) 0 < 2 ^ 32
+    push-lead = lt-of-lt-of-le (r .whole .lead ((p + k) / 256) (omega (arith, push-place))) (pow-mono (omega arith))
+
+  pub push : {k t : ℕ} → Without w k t → c < 32
+      → (children″ leads″ : List ℕ) → children″ ≡ set children c (nodesIn N l .child (getD nodes ((p + k) / 256) 0) ((p + k) % 256)) → leads″ ≡ set leads′ c (getD leads ((p + k) / 256) 0 * 256 + (p + k) % 256)
+      → Runs N d count l nodes leads maps W S out children″ leads″ (c + 1) skip at e t p
+  push {k} {t} T h children″ leads″ ec el = record {
+    levels = r .levels;
+    whole = r .whole;
+    held = r .held;
+    run = rw (ec, el) (run-push N (r .levels) d count l nodes leads maps W S (r .run) T h (r .whole));
+  }
+
+  pub done : (s i : ℕ) (o : List ℕ) → w ≡ 0 → e ≡ 4 * count → state s i o ≡ poured (allListed (nodesIn N l) d children leads′ c) (state skip at out) → state s i o ≡ poured W S
+  done s i o z h q = run-end N (r .levels) d count l nodes leads maps W S (r .run) s i o z (omega arith) q
+
+  pub full : skip ≡ 0 → length out ≤ at → state skip at out ≡ poured W S
+  full z h = run-full N (r .levels) d count l nodes leads maps W S (r .run) z h

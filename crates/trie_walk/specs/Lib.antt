@@ -1,0 +1,3 @@
+pub mod Pour
+pub mod Words
+pub mod Batch
