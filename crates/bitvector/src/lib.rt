@@ -2,7 +2,7 @@
 pub mod bitmap;
 pub mod thin;
 pub mod tiny;
-mod word;
+pub mod word;
 
 // What a search for the next set bit finds.
 pub enum Next {

@@ -8,7 +8,7 @@ ghost use Rattle.region.specs.Bits.{wordBit};
 ghost use Rattle.bitvector.specs.Maps.{MadeIn, Lowest};
 
 // Is bit k of w set?
-pub(crate) fn test(w: u64, k: usize) -> bool
+pub fn test(w: u64, k: usize) -> bool
     requires { ⌜ k < 64 ⌝ }
     ensures { λ r. ⌜ r ≡ eqb (wordBit w k) 1 ⌝ }
 {
@@ -16,7 +16,7 @@ pub(crate) fn test(w: u64, k: usize) -> bool
 }
 
 // w with bit k set.
-pub(crate) fn with(w: u64, k: usize) -> u64
+pub fn with(w: u64, k: usize) -> u64
     requires { ⌜ k < 64 ⌝ }
     ensures here { λ r. ⌜ wordBit r k ≡ 1 ⌝ }
     ensures other { λ r. ⌜ ((j : ℕ) → j ≢ k → wordBit r j ≡ wordBit w j) ⌝ }
@@ -25,7 +25,7 @@ pub(crate) fn with(w: u64, k: usize) -> u64
 }
 
 // w with bit k clear.
-pub(crate) fn without(w: u64, k: usize) -> u64
+pub fn without(w: u64, k: usize) -> u64
     requires { ⌜ k < 64 ⌝ }
     ensures here { λ r. ⌜ wordBit r k ≡ 0 ⌝ }
     ensures other { λ r. ⌜ ((j : ℕ) → j ≢ k → wordBit r j ≡ wordBit w j) ⌝ }
@@ -34,7 +34,7 @@ pub(crate) fn without(w: u64, k: usize) -> u64
 }
 
 // Word j of a map, where bit i of the map is set: only word i div 64 changes.
-pub(crate) fn with_in(w: u64, j: usize, i: usize) -> u64
+pub fn with_in(w: u64, j: usize, i: usize) -> u64
     ensures { λ r. ⌜ MadeIn w j i 1 r ⌝ }
 {
     if i / 64 == j {
@@ -44,7 +44,7 @@ pub(crate) fn with_in(w: u64, j: usize, i: usize) -> u64
 }
 
 // Word j of a map, where bit i of the map is cleared.
-pub(crate) fn without_in(w: u64, j: usize, i: usize) -> u64
+pub fn without_in(w: u64, j: usize, i: usize) -> u64
     ensures { λ r. ⌜ MadeIn w j i 0 r ⌝ }
 {
     if i / 64 == j {
@@ -54,7 +54,7 @@ pub(crate) fn without_in(w: u64, j: usize, i: usize) -> u64
 }
 
 // The place of the lowest set bit of w.
-pub(crate) fn lowest(w: u64) -> usize
+pub fn lowest(w: u64) -> usize
     requires { ⌜ w ≢ 0 ⌝ }
     ensures { λ r. ⌜ Lowest w r ⌝ }
 {
@@ -62,7 +62,7 @@ pub(crate) fn lowest(w: u64) -> usize
 }
 
 // How many bits of w are set.
-pub(crate) fn count(w: u64) -> usize
+pub fn count(w: u64) -> usize
     ensures is { λ r. ⌜ r ≡ ones w ⌝ }
     ensures few { λ r. ⌜ r ≤ 64 ⌝ }
 {
@@ -70,7 +70,7 @@ pub(crate) fn count(w: u64) -> usize
 }
 
 // How many bits of w below bit k are set.
-pub(crate) fn count_below(w: u64, k: usize) -> usize
+pub fn count_below(w: u64, k: usize) -> usize
     requires { ⌜ k < 64 ⌝ }
     ensures is { λ r. ⌜ r ≡ ones (w % 2 ^ k) ⌝ }
     ensures few { λ r. ⌜ r ≤ 64 ⌝ }
