@@ -1,5 +1,5 @@
 -- The two sides of a test's contract: the answer no, the answer yes, and the answer of another test that asks the same. Assumes nothing.
-use mathlib.Core.Path.{_≡_, refl, sym, subst}
+use mathlib.Core.Path.{_≡_, sym, subst}
 use mathlib.Core.Bool.{Bool, true, false}
 use lib.Dec.{T}
 

@@ -1,7 +1,7 @@
 -- Where every node below a root is named by its parent, every set bit above the last level has its child exactly if these bits are as many as these nodes. Assumes nothing.
-use Prim.Native.Nat.{ℕ, suc, _+_, _-_, _*_, _/_, _%_, _≤_, _<_, min}
-use mathlib.Core.Path.{_≡_, refl, sym, ap, ap₂, _∙_, subst}
-use mathlib.Core.Bool.{Bool, true, false, cond, _&&_}
+use Prim.Native.Nat.{ℕ, suc, _+_, _-_, _*_, _/_, _%_, _≤_, _<_}
+use mathlib.Core.Path.{_≡_, sym, ap, ap₂, _∙_, subst}
+use mathlib.Core.Bool.{cond}
 use native.Mathlib.Omega.{arith}
 use lib.Dec.{leb, ltb}
 use borrow.Author.Tests.{le-leb, lt-ltb, leb-true, ltb-true}
@@ -11,7 +11,7 @@ use Rattle.lists.proofs.Sums.{sum-same, sum-zero}
 use Rattle.region.specs.Nodes.{Nodes}
 use Rattle.region.specs.WellFormed.{Child, Children}
 use Rattle.region.specs.Linked.{Above}
-use Rattle.arena_check.specs.Checks.{belowRoot, inner, setBits, branches}
+use Rattle.arena_check.specs.Checks.{belowRoot, inner, branches}
 use Rattle.arena_check.proofs.Matching.{Lands, Met, at-most, all-met, sum-rows}
 
 module _ (v : Nodes) (N b : ℕ) (bits : (n x : ℕ) → v .bit n x < 2) where

@@ -1,15 +1,14 @@
 -- The four words from word slots + n * 264 on are the map of node n: its bits are theirs, and it is empty where none is counted. Assumes nothing.
 use Prim.Native.Nat.{ℕ, _+_, _*_, _/_, _%_, _≤_, _<_}
-use mathlib.Core.Path.{_≡_, refl, sym, ap, _∙_, subst}
+use mathlib.Core.Path.{_≡_, sym, ap, _∙_}
 use mathlib.Core.Logic.{_≢_}
 use mathlib.Core.Bool.{Bool, true, false, not}
 use mathlib.Core.List.{List}
 use native.Mathlib.Omega.{arith}
 use lib.Dec.{eqb}
-use lib.ListN.{length, take, drop, getD}
+use lib.ListN.{take, drop, getD}
 use lib.Seq.{getD-take, getD-drop}
 use borrow.Author.Tests.{eqb-true, eqb-false}
-use Rattle.lists.specs.Sums.{sum}
 use Rattle.lists.proofs.Sums.{sum-same, sum-le, Nth, nth}
 use Rattle.lists.proofs.Counts.{sum-few}
 use Rattle.region.specs.Bits.{wordBit, bit, rank}

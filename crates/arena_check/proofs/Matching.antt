@@ -5,12 +5,12 @@ use mathlib.Core.Path.{_≡_, refl, sym, ap, _∙_, subst}
 use mathlib.Core.Logic.{_≢_}
 use mathlib.Core.Bool.{cond}
 use native.Mathlib.Omega.{arith}
-use native.Mathlib.Nat.{add-zero, add-suc}
+use native.Mathlib.Nat.{add-suc}
 use native.Mathlib.Decide.{ℕ-discrete, decLt}
 use lib.Dec.{eqb}
 use borrow.Author.Tests.{eq-eqb, ne-eqb}
 use Rattle.lists.specs.Sums.{sum}
-use Rattle.lists.proofs.Laws.{eqb-self, below-le}
+use Rattle.lists.proofs.Laws.{below-le}
 use Rattle.lists.proofs.Sums.{sum-same, sum-zero, sum-single, sum-swap}
 
 pub sum-step : (f : ℕ → ℕ) (n : ℕ) → sum f (suc n) ≡ f n + sum f n

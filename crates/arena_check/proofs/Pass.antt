@@ -1,7 +1,6 @@
 -- The pass over the nodes: what holds once n of them are passed, at the start, by one more and at the end. Assumes nothing.
 use Prim.Native.Nat.{ℕ, zero, suc, _+_, _-_, _*_, _≤_, _<_, min}
 use mathlib.Core.Path.{_≡_, refl, sym, ap, _∙_, subst}
-use mathlib.Core.Bool.{cond}
 use mathlib.Core.List.{List}
 use native.Mathlib.Numerals.{add-one}
 use native.Mathlib.Omega.{arith}
@@ -14,7 +13,7 @@ use Rattle.region.specs.Geometry.{nodeWords}
 use Rattle.region.specs.Nodes.{Nodes}
 use Rattle.region.specs.WellFormed.{nodesUsed}
 use Rattle.arena.specs.Arena.{Arena, nodesIn, spareIn}
-use Rattle.arena_check.specs.Checks.{NodeOk, belowRoot, inner, setBits, branches}
+use Rattle.arena_check.specs.Checks.{NodeOk, belowRoot, inner, branches}
 use Rattle.arena_check.proofs.Matching.{sum-step}
 use Rattle.arena_check.proofs.Maps.{set-few}
 use Rattle.arena_check.proofs.Both.{arena-of, even-of}

@@ -1,7 +1,7 @@
 -- Each word is read once those before it let it be looked at; the parent's child for the node's byte is the node. Assumes nothing.
-use mathlib.Core.Path.{_≡_, sym, ap, ap₂, _∙_, subst}
+use mathlib.Core.Path.{_≡_, sym, ap, ap₂, _∙_}
 use mathlib.Core.Bool.{Bool, true, false, false≢true}
-use Prim.Native.Nat.{ℕ, suc, _+_, _≤_, _<_}
+use Prim.Native.Nat.{ℕ, _+_, _≤_, _<_}
 use native.Mathlib.Omega.{arith}
 use lib.Dec.{eqb}
 use borrow.Author.Needs.{needs}
@@ -12,13 +12,6 @@ use Rattle.arena.specs.Arena.{nodesIn}
 use Rattle.arena_check.proofs.Answers.{refused, granted}
 use Rattle.arena_check.proofs.above.Statement.{statement}
 use Rattle.arena_check.proofs.above.Tie as tie
-use Rattle.arena_check.proofs.above.Reads as reads
-use Rattle.arena_check.proofs.above.Lts as lts
-use Rattle.arena.proofs.read.byte.Reads as byte-reads
-use Rattle.arena.proofs.read.child.Reads as child-reads
-use Rattle.arena.proofs.read.level1.Reads as level1-reads
-use Rattle.arena.proofs.read.parent.Reads as parent-reads
-use Rattle.arena.proofs.read.test.Reads as test-reads
 
 module _ (v : Nodes) (N l n p : ℕ) (is : p ≡ v .parent n) where
   too-far : N ≤ p → Above v N l n → ⊥

@@ -1,7 +1,7 @@
 -- Nothing wants a child in a free node or at the last level. Assumes nothing.
-use mathlib.Core.Path.{_≡_, refl, sym, ap, _∙_}
+use mathlib.Core.Path.{_≡_, _∙_}
 use mathlib.Core.Logic.{_≢_}
-use mathlib.Core.Bool.{true, false, cond}
+use mathlib.Core.Bool.{true, false}
 use Prim.Native.Nat.{ℕ, _≤_, _<_}
 use native.Mathlib.Omega.{arith}
 use lib.Dec.{leb, ltb}
@@ -13,9 +13,6 @@ use Rattle.arena.specs.Arena.{nodesIn}
 use Rattle.arena_check.specs.Checks.{inner, setBits, branches}
 use Rattle.arena_check.proofs.branches.Statement.{statement}
 use Rattle.arena_check.proofs.branches.Tie as tie
-use Rattle.arena_check.proofs.branches.Reads as reads
-use Rattle.arena_check.proofs.branches.Lts as lts
-use Rattle.arena_check.proofs.set_bits.Reads as set-bits-reads
 
 module _ (v : Nodes) (b n level : ℕ) (is : level ≡ v .level1 n) where
   last : b ≤ level → 0 ≡ branches v b n

@@ -1,7 +1,7 @@
 -- A node is free, a root or below one, and each kind has its own tests. Assumes nothing.
 use mathlib.Core.Path.{_≡_, sym, _∙_, subst}
 use mathlib.Core.Logic.{_≢_}
-use Prim.Native.Nat.{ℕ, suc, _+_, _-_, _≤_, _<_}
+use Prim.Native.Nat.{ℕ, _-_, _≤_, _<_}
 use native.Mathlib.Omega.{arith}
 use borrow.Author.Needs.{needs}
 use borrow.Author.Tests.{not-true, not-false}
@@ -13,11 +13,6 @@ use Rattle.arena_check.specs.Checks.{NodeOk}
 use Rattle.arena_check.proofs.Answers.{refused, granted, told}
 use Rattle.arena_check.proofs.node_ok.Statement.{statement}
 use Rattle.arena_check.proofs.node_ok.Tie as tie
-use Rattle.arena_check.proofs.node_ok.Reads as reads
-use Rattle.arena_check.proofs.node_ok.Lts as lts
-use Rattle.arena_check.proofs.above.Reads as above-reads
-use Rattle.arena_check.proofs.non_empty.Reads as non-empty-reads
-use Rattle.arena_check.proofs.stacked.Reads as stacked-reads
 
 module _ (N b free : ℕ) (spare : ℕ → ℕ) (v : Nodes) (n level : ℕ) (is : level ≡ v .level1 n) where
   free-ok : level ≡ 0 → StackedNode free spare v n → NodeOk N b free spare v n

@@ -1,5 +1,5 @@
 -- The four words are loaded, and counted against none. Assumes nothing.
-use mathlib.Core.Path.{_≡_, ap, _∙_}
+use mathlib.Core.Path.{ap, _∙_}
 use mathlib.Core.List.{List}
 use Prim.Native.Nat.{ℕ, _+_, _-_, _*_}
 use native.Mathlib.Omega.{arith}
@@ -11,10 +11,6 @@ use Rattle.arena_check.proofs.Maps.{bits-of, count-is, some-told}
 use borrow.Author.Needs.{needs}
 use Rattle.arena_check.proofs.non_empty.Statement.{statement}
 use Rattle.arena_check.proofs.non_empty.Tie as tie
-use Rattle.arena_check.proofs.non_empty.Reads as reads
-use Rattle.arena_check.proofs.non_empty.Lts as lts
-use Rattle.bitvector.proofs.tiny.TinyBitvector.is_empty.Reads as is-empty-reads
-use Rattle.bitvector.proofs.tiny.TinyBitvector.load.Reads as load-reads
 
 mul-at : tie.Need-mul-at
 mul-at c = search needs

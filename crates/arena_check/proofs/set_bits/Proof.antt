@@ -1,5 +1,5 @@
 -- The four words are loaded, and counted. Assumes nothing.
-use mathlib.Core.Path.{_≡_, ap, _∙_}
+use mathlib.Core.Path.{ap, _∙_}
 use mathlib.Core.List.{List}
 use Prim.Native.Nat.{ℕ, _+_, _-_, _*_}
 use native.Mathlib.Omega.{arith}
@@ -9,10 +9,6 @@ use Rattle.arena_check.proofs.Maps.{count-is}
 use borrow.Author.Needs.{needs}
 use Rattle.arena_check.proofs.set_bits.Statement.{statement}
 use Rattle.arena_check.proofs.set_bits.Tie as tie
-use Rattle.arena_check.proofs.set_bits.Reads as reads
-use Rattle.arena_check.proofs.set_bits.Lts as lts
-use Rattle.bitvector.proofs.tiny.TinyBitvector.count.Reads as count-reads
-use Rattle.bitvector.proofs.tiny.TinyBitvector.load.Reads as load-reads
 
 mul-at : tie.Need-mul-at
 mul-at c = search needs

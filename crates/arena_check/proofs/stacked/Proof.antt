@@ -1,5 +1,5 @@
 -- The stack is read at the node's own place, once that is in range. Assumes nothing.
-use mathlib.Core.Path.{_≡_, sym, ap, _∙_, subst}
+use mathlib.Core.Path.{_≡_, sym, ap, _∙_}
 use Prim.Native.Nat.{ℕ, _≤_, _<_}
 use native.Mathlib.Omega.{arith}
 use borrow.Author.Needs.{needs}
@@ -9,10 +9,6 @@ use Rattle.arena.specs.Arena.{nodesIn, spareIn}
 use Rattle.arena_check.proofs.Answers.{refused, granted}
 use Rattle.arena_check.proofs.stacked.Statement.{statement}
 use Rattle.arena_check.proofs.stacked.Tie as tie
-use Rattle.arena_check.proofs.stacked.Reads as reads
-use Rattle.arena_check.proofs.stacked.Lts as lts
-use Rattle.arena.proofs.read.parent.Reads as parent-reads
-use Rattle.arena.proofs.read.spare.Reads as spare-reads
 
 module _ (v : Nodes) (spare : ℕ → ℕ) (free n place : ℕ) (is : place ≡ v .parent n) where
   too-far : free ≤ place → StackedNode free spare v n → ⊥

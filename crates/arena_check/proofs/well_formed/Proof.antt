@@ -1,6 +1,5 @@
 -- Each node is passed once, and once all are passed the counts decide. Assumes nothing.
-use mathlib.Core.Path.{_≡_, sym, _∙_}
-use Prim.Native.Nat.{ℕ, _-_}
+use Prim.Native.Nat.{_-_}
 use native.Mathlib.Omega.{arith}
 use borrow.Author.Needs.{needs}
 use borrow.Author.Tests.{not-true, not-false}
@@ -11,12 +10,6 @@ use Rattle.arena_check.proofs.Both.{few, node-of}
 use Rattle.arena_check.proofs.Pass.{Passed, pass-start, pass-next, pass-end, taken-few, hung-few, bits-few, branch-few, miscounted, uneven, all-true}
 use Rattle.arena_check.proofs.well_formed.Statement.{statement}
 use Rattle.arena_check.proofs.well_formed.Tie as tie
-use Rattle.arena_check.proofs.well_formed.Reads as reads
-use Rattle.arena_check.proofs.well_formed.Lts as lts
-use Rattle.arena.proofs.read.level1.Reads as level1-reads
-use Rattle.arena_check.proofs.more_than.Reads as more-than-reads
-use Rattle.arena_check.proofs.node_ok.Reads as node-ok-reads
-use Rattle.arena_check.proofs.branches.Reads as branches-reads
 
 abbrev Inv-loop : tie.InvT-loop
 Inv-loop arena slots used b free taken₀ hung₀ bits₀ n₀ taken hung bits n = Passed slots b free (spareIn arena) (nodesIn slots arena) n taken hung bits
