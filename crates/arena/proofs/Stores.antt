@@ -147,8 +147,8 @@ pub push-after : {N k f : ℕ} {l l₁ l₂ : List ℕ} → SpareStays N l l₁ 
 push-after s p = record { here = p .here; else = λ i h ne. p .else i h ne ∙ s i h }
 
 -- to hang is to set the bit, to make the node and to link it
-pub compose : {v v₁ v₂ w : Nodes} {n x f l : ℕ} → x < 256 → n ≢ f → BitMade v n x 1 v₁ → NodeMade v₁ f (l + 1) n x v₂ → ChildMade v₂ n x f w → Hung v n x f l w
-compose {v} {v₁} {v₂} {w} {n} {x} {f} {l} hx nf s m k = record {
+pub compose : {v v₁ v₂ w : Nodes} {n x f p l : ℕ} → x < 256 → n ≢ f → BitMade v n x 1 v₁ → NodeMade v₁ f (l + 1) p x v₂ → p ≡ n → ChildMade v₂ n x f w → Hung v n x f l w
+compose {v} {v₁} {v₂} {w} {n} {x} {f} {p} {l} hx nf s m back k = record {
   bit-here = k .bit n x hx ∙ m .bit-else n x hx nf ∙ s .here;
   bit-new = λ y hy. k .bit f y hy ∙ m .bit-new y hy;
   bit-else = λ u y hy ne q. k .bit u y hy ∙ m .bit-else u y hy ne ∙ s .else u y hy q;
@@ -156,7 +156,7 @@ compose {v} {v₁} {v₂} {w} {n} {x} {f} {l} hx nf s m k = record {
   child-else = λ u y hy q. k .else u y hy q ∙ m .child u y hy ∙ s .child u y hy;
   level-new = k .level f ∙ m .level-new ∙ add-one l;
   level-else = λ u ne. k .level u ∙ m .level-else u ne ∙ s .level u;
-  parent-new = k .parent f ∙ m .parent-new;
+  parent-new = k .parent f ∙ m .parent-new ∙ back;
   parent-else = λ u ne. k .parent u ∙ m .parent-else u ne ∙ s .parent u;
   byte-new = k .byte f ∙ m .byte-new;
   byte-else = λ u ne. k .byte u ∙ m .byte-else u ne ∙ s .byte u;

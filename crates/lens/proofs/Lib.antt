@@ -4,3 +4,4 @@ pub mod Header
 pub mod Rebuild
 pub mod Words
 pub mod Ranks
+pub mod Holding

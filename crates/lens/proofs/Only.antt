@@ -14,6 +14,11 @@ pub area-length : (off n : ℕ) (l : List ℕ) → off + n ≤ length l → leng
 unfolding area
 area-length off n l h = length-take-le n (drop off l) (omega (arith, length-drop off l))
 
+-- an area of an area
+pub area-area : (off n a k : ℕ) (l : List ℕ) → a + k ≤ n → area a k (area off n l) ≡ area (off + a) k l
+unfolding area
+area-area off n a k l h = area-take a k n (drop off l) h ∙ ap (take k) (drop-drop a off l)
+
 -- l and m differ at most in the k words from o on
 pub record Only (o k : ℕ) (l m : List ℕ) : Type 0 where
   pub same-length : length m ≡ length l

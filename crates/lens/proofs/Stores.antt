@@ -6,7 +6,7 @@ use native.Mathlib.Omega.{arith}
 use lib.ListN.{length, take, drop, set}
 use lib.Seq.{take-add, drop-drop, take-at, drop-at}
 use borrow.Rule.Slice.PartMut.{putMid}
-use Rattle.region.specs.Geometry.{headerWords, bitmapWords, recordWords, stripWords, nodeWords, offBitmap, offRanks, offStack, offRecords, offEntries, offNodeStack, offNodes, total}
+use Rattle.region.specs.Geometry.{headerWords, bitmapWords, recordWords, stripWords, nodeWords, offBitmap, offRanks, offStack, offRecords, offEntries, offNodeStack, total}
 use Rattle.region.specs.Areas.{Numbers, area, bitmap, ranks, stack, records, entries, nodeStack, nodes}
 use Rattle.region.proofs.Areas.{area-set-in}
 use Rattle.lens.specs.Parts.{Parts, partsOf, withBitmap, withRanks, withStack, withRecords, withEntries, withArena, arenaOf}

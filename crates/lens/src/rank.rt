@@ -4,7 +4,6 @@ ghost use Prim.Native.Nat.{_^_, _<_};
 ghost use Rattle.region.specs.Areas.{numbers};
 ghost use Rattle.region.specs.Seen.{seen};
 ghost use Rattle.region.specs.WellFormed.{rankOf, WellFormed};
-
 use super::read;
 
 // How many prefixes below p are set.

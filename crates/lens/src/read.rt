@@ -1,13 +1,12 @@
 // What the words of a region say: each getter is the definition's own function. Where an area starts is read from the header.
 ghost use mathlib.Core.Path.{_≡_};
-ghost use Prim.Native.Nat.{ℕ, _+_, _*_, _^_, _<_};
+ghost use Prim.Native.Nat.{_+_, _*_, _^_, _<_};
 ghost use lib.Dec.{eqb};
 ghost use lib.ListN.{getD};
 ghost use Rattle.region.specs.Geometry.{recordWords, stripWords};
 ghost use Rattle.region.specs.Areas.{numbers, records};
 ghost use Rattle.region.specs.Seen.{seen};
 ghost use Rattle.region.specs.WellFormed.{Ready};
-
 use bitvector::bitmap;
 
 // Prefix bits.

@@ -15,10 +15,10 @@ use Rattle.arena.proofs.Stays.{Stay, stay-refl, stay-trans, stay-others, others
 use Rattle.arena.proofs.Setting.{wf-bit, set-others, set-suffixes}
 use Rattle.arena.proofs.Stacks.{stack-arena, stack-stays}
 use Rattle.arena.proofs.Fullness.{full-all, full-bit}
-use Rattle.trie.specs.declared.Inserted.the-variants.{New, Old, NoRoom}
+use Rattle.trie.specs.declared.Inserted.the-variants.{New, NoRoom}
 use Rattle.trie.specs.Walked.{Walked}
 use Rattle.trie.specs.Answers.{InsertedAs}
-use Rattle.trie.proofs.Lookup.{found, missed, last-level}
+use Rattle.trie.proofs.Lookup.{missed}
 use Rattle.trie.proofs.Room.{nodes-more}
 use Rattle.trie.proofs.Open.{Open, here, open-down, stay-down}
 
@@ -83,7 +83,3 @@ module _ (N used : ℕ) (l₀ : List ℕ) (root s n₀ j₀ left : ℕ) (l : Lis
 
   pub finish : (b : ℕ) → b ≤ j + 1 → Finish b
   finish b h a rt hs wk clear g = let l : j < b = g .state .walked .small in let e : suc j ≡ b = omega arith in subst Finish e finish-suc a rt hs wk clear g
-
-pub was-old : (N used : ℕ) (l : List ℕ) {root s b n j : ℕ} → s < 2 ^ (8 * b) → Walked (nodesIn N l) root s b n j → (j + 1 < b → nodesIn N l .bit n (byteOf b s j) ≡ 0)
-    → nodesIn N l .bit n (byteOf b s j) ≡ 1 → InsertedAs N b used root s l Old l
-was-old N used l hs wk cl e = (found wk hs e (last-level wk cl e), refl)

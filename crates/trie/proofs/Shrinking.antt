@@ -22,10 +22,10 @@ use Rattle.arena.proofs.Setting.{wf-bit, path-clear, root-clear, follow-bit, cl
 use Rattle.arena.proofs.Stacks.{arena-stack, stack-arena, stack-stays, stack-freed, used-some}
 use Rattle.arena.proofs.Fullness.{full-all, full-bit, full-freed}
 use Rattle.arena.proofs.Unhanging.{wf-root, others-root}
-use Rattle.trie.specs.declared.Removed.the-variants.{Gone, Last, Absent}
+use Rattle.trie.specs.declared.Removed.the-variants.{Gone, Last}
 use Rattle.trie.specs.Walked.{Walked}
 use Rattle.trie.specs.Answers.{RemovedAs}
-use Rattle.trie.proofs.Lookup.{there, found, missed}
+use Rattle.trie.proofs.Lookup.{there, found}
 use Rattle.trie.proofs.Room.{nodes-more, nodes-single}
 use Rattle.trie.proofs.Open.{Open, here, open-up, stay-up}
 
@@ -162,7 +162,3 @@ module _ {N b used : ℕ} {l₁ : List ℕ} {root s left : ℕ} {l : List ℕ} {
               room = omega (arith, g .count, some-used);
             },
           )
-
--- the path ends above the last level, or the bit at its end is clear
-pub absent : (N used : ℕ) (l : List ℕ) {root s b n j : ℕ} → Walked (nodesIn N l) root s b n j → nodesIn N l .bit n (byteOf b s j) ≡ 0 → RemovedAs N b used root s l Absent l
-absent N used l wk e = (missed wk e, refl)

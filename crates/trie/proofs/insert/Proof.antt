@@ -1,5 +1,5 @@
 -- Down from where the walk stops, a node at a time, and the last bit. Assumes nothing.
-use mathlib.Core.Path.{_≡_, sym, _∙_}
+use mathlib.Core.Path.{_≡_, refl, sym, _∙_}
 use Prim.Native.Nat.{_-_, _<_}
 use native.Mathlib.Omega.{arith}
 use borrow.Author.Needs.{needs}
@@ -7,9 +7,9 @@ use denote.Ref.{now}
 use Rattle.region.specs.Tries.{byteOf}
 use Rattle.arena.specs.Arena.{nodesIn}
 use Rattle.arena.proofs.Stacks.{arena-stack, used-fits}
-use Rattle.trie.proofs.Lookup.{there, is-byte, set-bit, clear-bit}
+use Rattle.trie.proofs.Lookup.{there, is-byte, set-bit, clear-bit, found, last-level}
 use Rattle.trie.proofs.Open.{whole, here, top-range, apart}
-use Rattle.trie.proofs.Growing.{Growing, begin, room, down, no-room, finish, was-old}
+use Rattle.trie.proofs.Growing.{Growing, begin, room, down, no-room, finish}
 use Rattle.trie.proofs.insert.Statement.{statement}
 use Rattle.trie.proofs.insert.Tie as tie
 
@@ -49,8 +49,8 @@ returns : tie.Need-returns Inv-loop μ-loop
 returns c =
     let z = c .before .before .before .before .before .before .before in
     let d = c .before .before .before .before .descend in
-    was-old (z .args .slots) (z .args .used) (now (z .args .arena)) (z .pre .1 .1 .1 .1) (d .ensures .0) (d .ensures .1)
-    (set-bit (z .args .slots) (now (z .args .arena)) (d .result .n) (c .before .before .byte .result) _ (c .before .test .result) (c .before .before .byte .ensures) (c .before .test .ensures) (c .if1 .taken))
+    let one = set-bit (z .args .slots) (now (z .args .arena)) (d .result .n) (c .before .before .byte .result) _ (c .before .test .result) (c .before .before .byte .ensures) (c .before .test .ensures) (c .if1 .taken) in
+    (found (d .ensures .0) (z .pre .1 .1 .1 .1) one (last-level (d .ensures .0) (d .ensures .1) one), refl)
 
 add-if2 : tie.Need-add-if2 Inv-loop μ-loop
 add-if2 c = search needs
@@ -65,10 +65,10 @@ same-length-2 : tie.Need-same-length-2 Inv-loop μ-loop
 same-length-2 c = search needs
 
 returns-2 : tie.Need-returns-2 Inv-loop μ-loop
-returns-2 c = let z = st (c .before) .pre in no-room (z .0) (z .1 .0) (z .1 .1 .1 .1) (c .before .before .before .before .before .descend .ensures .0) (is-clear (c .before)) (c .if2 .taken)
+returns-2 c = let z = st (c .before) .pre in no-room (z .0) (z .1 .0) (z .1 .1 .1 .1) (c .before .before .before .before .before .descend .ensures .0) (is-clear (c .before)) (omega arith)
 
 loop-holds : tie.Need-loop-holds Inv-loop μ-loop
-loop-holds c = let z = st (c .before) .pre in begin (whole (z .0) (z .1 .0) (c .before .before .before .before .before .descend .ensures .0) (is-clear (c .before))) (c .if2 .left)
+loop-holds c = let z = st (c .before) .pre in begin (whole (z .0) (z .1 .0) (c .before .before .before .before .before .descend .ensures .0) (is-clear (c .before))) (omega arith)
 
 add-loop : tie.Need-add-loop Inv-loop μ-loop
 add-loop c = search needs

@@ -7,9 +7,9 @@ use borrow.Author.Tests.{not-true, not-false}
 use denote.Ref.{now}
 use Rattle.arena.specs.Arena.{nodesIn}
 use Rattle.arena.proofs.Stacks.{used-fits}
-use Rattle.trie.proofs.Lookup.{there, is-byte, set-bit, clear-bit}
+use Rattle.trie.proofs.Lookup.{there, is-byte, set-bit, clear-bit, missed}
 use Rattle.trie.proofs.Open.{here, place, above}
-use Rattle.trie.proofs.Shrinking.{Cleared, Shrinking, start, up, some-used, gone, vanished, absent}
+use Rattle.trie.proofs.Shrinking.{Cleared, Shrinking, start, up, some-used, gone, vanished}
 use Rattle.trie.proofs.remove.Statement.{statement}
 use Rattle.trie.proofs.remove.Tie as tie
 
@@ -56,7 +56,7 @@ same-length : tie.Need-same-length Inv-loop μ-loop
 same-length c = search needs
 
 returns : tie.Need-returns Inv-loop μ-loop
-returns c = let z = c .before .before .before .before .args in absent (z .slots) (z .used) (now (z .arena)) (c .before .descend .ensures .0) (c .before .descend .ensures .1 (c .if1 .taken))
+returns c = (missed (c .before .descend .ensures .0) (c .before .descend .ensures .1 (c .if1 .taken)), refl)
 
 byte-requires : tie.Need-byte-requires Inv-loop μ-loop
 byte-requires c κs = search needs
@@ -73,8 +73,7 @@ returns-2 : tie.Need-returns-2 Inv-loop μ-loop
 returns-2 c =
     let z = c .before .before .before .before .before .before .before .before .args in
     let d = c .before .before .before .before .before .descend in
-    absent (z .slots) (z .used) (now (z .arena)) (d .ensures .0)
-    (clear-bit (z .slots) (now (z .arena)) (d .result .n) (c .before .before .before .byte .result) _ (c .before .test .result) (c .before .before .before .byte .ensures) (c .before .test .ensures) (not-true _ (c .if2 .taken)))
+    (missed (d .ensures .0) (clear-bit (z .slots) (now (z .arena)) (d .result .n) (c .before .before .before .byte .result) _ (c .before .test .result) (c .before .before .before .byte .ensures) (c .before .test .ensures) (not-true _ (c .if2 .taken))), refl)
 
 clear-bit-requires : tie.Need-clear-bit-requires Inv-loop μ-loop
 clear-bit-requires c κs =

@@ -1,5 +1,5 @@
 -- The bit, the node, the link. Assumes nothing.
-use mathlib.Core.Path.{_∙_}
+use mathlib.Core.Path.{refl, _∙_}
 use Rattle.arena.proofs.Stores.{compose}
 use borrow.Author.Needs.{needs}
 use Rattle.arena.proofs.write.hang.Statement.{statement}
@@ -26,7 +26,7 @@ returns c =
     let s = c .before .before .before .before .before .before .before .before .before .before .set-bit .ensures in
     let m = c .before .before .before .before .before .before .make-node .ensures in
     let k = c .before .before .set-child .ensures in
-    (compose (z .1 .1 .1 .0) (z .1 .1 .1 .1 .0) (s .0) (m .0) (k .0), λ i h. k .1 i h ∙ m .1 i h ∙ s .1 i h)
+    (compose (z .1 .1 .1 .0) (z .1 .1 .1 .1 .0) (s .0) (m .0) refl (k .0), λ i h. k .1 i h ∙ m .1 i h ∙ s .1 i h)
 
 pub hang-spec : {M : Type 1} → statement M
 hang-spec =
