@@ -3,9 +3,9 @@ use mathlib.Core.Path.{_≡_, sym, ap, _∙_, subst}
 use mathlib.Core.Logic.{_≢_}
 use mathlib.Core.Bool.{true, false, false≢true}
 use mathlib.Core.List.{List}
-use Prim.Native.Nat.{ℕ, _+_, _-_, _≤_, _<_}
+use Prim.Native.Nat.{ℕ, suc, _+_, _-_, _≤_, _<_}
 use native.Mathlib.Omega.{arith}
-use native.Mathlib.Decide.{decLt}
+use native.Mathlib.Decide.{ℕ-discrete, decLt}
 use lib.ListN.{length, take, drop, getD, length-drop}
 use lib.Seq.{length-take-le, take-all, take-take, getD-take, getD-drop}
 use Rattle.lists.specs.Lists.{mem}
@@ -55,3 +55,11 @@ missing-rest xs s i k l none p h =
     let long : length rest ≡ length xs - i = length-drop i xs in
     let long′ : length (take (length xs - i) rest) ≡ length xs - i = length-part xs s i (length xs - i) k (omega arith) in
     mem-rest s xs i none ∙ ap (mem s) (sym (take-all (length xs - i) rest (omega arith))) ∙ missing (take (length xs - i) rest) s k p (omega arith)
+
+-- what holds of a place and of those from the next on
+pub from-here : (P : ℕ → Type 0) (i j n : ℕ) → i ≤ suc j → P j → ((k : ℕ) → i ≤ k → k < n → P k) → (k : ℕ) → j ≤ k → k < n → P k
+from-here P i j n h p all k l m = pick (ℕ-discrete j k)
+  where
+    pick : Dec (j ≡ k) → P k
+    pick (yes e) = subst P e p
+    pick (no ne) = all k (omega arith) m

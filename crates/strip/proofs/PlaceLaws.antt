@@ -1,15 +1,15 @@
--- Membership and difference told by places: what a region says of a vector's entries, and what the lists say. Assumes nothing.
-use mathlib.Core.Path.{_≡_, refl, sym, ap, _∙_, subst}
+-- Membership, difference and order told by places: what a region says of a vector's entries, and what the lists say. Assumes nothing.
+use mathlib.Core.Path.{_≡_, sym, ap, _∙_, subst}
 use mathlib.Core.Logic.{_≢_}
-use mathlib.Core.Bool.{Bool, true, false, true≢false, false≢true}
+use mathlib.Core.Bool.{true, false, true≢false, false≢true}
 use mathlib.Core.List.{List, [], _∷_}
-use Prim.Native.Nat.{ℕ, zero, suc, _≤_, _<_}
+use Prim.Native.Nat.{ℕ, zero, suc, _-_, _≤_, _<_}
 use native.Mathlib.Omega.{arith}
-use lib.Dec.{eqb}
+use native.Mathlib.Decide.{ℕ-discrete}
 use lib.ListN.{length, take, getD}
 use lib.Seq.{take-length}
-use Rattle.lists.specs.Lists.{mem, Distinct}
-use Rattle.lists.proofs.Laws.{or-left, or-right, eqb-self, not-true-false}
+use Rattle.lists.specs.Lists.{mem, Ascending, Distinct}
+use Rattle.lists.proofs.Laws.{over-trans}
 use Rattle.lists.proofs.Each.{Place, mem-upTo, upTo-mem, take-upTo, distinct-upTo}
 
 -- a place before k where s stands
@@ -44,3 +44,42 @@ answer-no xs j l m = (λ e. absurd (false≢true e), λ _. repeated-distinct xs 
 
 pub answer-yes : (xs : List ℕ) (j : ℕ) → length xs ≤ j → ((k : ℕ) → k < j → mem (getD xs k 0) (take k xs) ≡ false) → (true ≡ true → Distinct xs) × (true ≡ false → Distinct xs → ⊥)
 answer-yes xs j l h = (λ _. fresh-distinct xs (λ k m. h k (omega arith)), λ e _. true≢false e)
+
+-- entries ascend exactly when each is below the next
+steps-ascending : (xs : List ℕ) → ((i : ℕ) → suc i < length xs → getD xs i 0 < getD xs (suc i) 0) → Ascending xs
+steps-ascending [] h = tt
+steps-ascending (x ∷ []) h = (tt, tt)
+steps-ascending (x ∷ y ∷ ys) h =
+    let rest : Ascending (y ∷ ys) = steps-ascending (y ∷ ys) (λ i l. h (suc i) (omega arith)) in
+    let l : x < y = h 0 (omega arith) in
+    ((l, over-trans ys l (rest .0)), rest)
+
+ascending-steps : (xs : List ℕ) → Ascending xs → (i : ℕ) → suc i < length xs → getD xs i 0 < getD xs (suc i) 0
+ascending-steps [] a i l = absurd (omega arith)
+ascending-steps (x ∷ []) a i l = absurd (omega arith)
+ascending-steps (x ∷ y ∷ ys) a zero l = a .0 .0
+ascending-steps (x ∷ y ∷ ys) a (suc i) l = ascending-steps (y ∷ ys) (a .1) i (omega arith)
+
+-- the two answers of a test of Ascending, where it came to place i
+pub falls-no : (xs : List ℕ) (i : ℕ) → 1 ≤ i → i < length xs → getD xs i 0 ≤ getD xs (i - 1) 0 → (false ≡ true → Ascending xs) × (false ≡ false → Ascending xs → ⊥)
+falls-no xs i h l g = (
+  λ e. absurd (false≢true e),
+  λ _ a.
+      let e : suc (i - 1) ≡ i = omega arith in
+      let s : getD xs (i - 1) 0 < getD xs (suc (i - 1)) 0 = ascending-steps xs a (i - 1) (omega arith) in
+      let f : getD xs (suc (i - 1)) 0 ≡ getD xs i 0 = ap (λ (k : ℕ). getD xs k 0) e in omega arith,
+)
+
+pub rises-yes : (xs : List ℕ) (i : ℕ) → length xs ≤ i → ((k : ℕ) → suc k < i → getD xs k 0 < getD xs (suc k) 0) → (true ≡ true → Ascending xs) × (true ≡ false → Ascending xs → ⊥)
+rises-yes xs i l h = (λ _. steps-ascending xs (λ k m. h k (omega arith)), λ e _. true≢false e)
+
+-- one step more
+pub rises-more : (xs : List ℕ) (i : ℕ) → 1 ≤ i → ((k : ℕ) → suc k < i → getD xs k 0 < getD xs (suc k) 0) → getD xs (i - 1) 0 < getD xs i 0 → (k : ℕ) → suc k < suc i → getD xs k 0 < getD xs (suc k) 0
+rises-more xs i h all s k l = pick (ℕ-discrete (suc k) i)
+  where
+    pick : Dec (suc k ≡ i) → getD xs k 0 < getD xs (suc k) 0
+    pick (yes e) =
+        let q : i - 1 ≡ k = omega arith in
+        let a : getD xs (i - 1) 0 ≡ getD xs k 0 = ap (λ (m : ℕ). getD xs m 0) q in
+        let b : getD xs i 0 ≡ getD xs (suc k) 0 = ap (λ (m : ℕ). getD xs m 0) (sym e) in omega arith
+    pick (no ne) = all k (omega arith)

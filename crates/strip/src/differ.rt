@@ -3,7 +3,7 @@ ghost use mathlib.Core.Path.{_≡_};
 ghost use mathlib.Core.Bool.{true, false};
 ghost use Prim.Native.Nat.{_≤_};
 ghost use lib.ListN.{length, take};
-ghost use Rattle.lists.specs.Lists.{mem, Distinct};
+ghost use Rattle.lists.specs.Lists.{mem, Ascending, Distinct};
 ghost use Rattle.strip.specs.Marks.{near, far, marked, Marks, Marking};
 use super::search;
 
@@ -79,21 +79,40 @@ fn distinct_searched(entries: &[u64]) -> bool
     ensures yes { λ r. ⌜ (r ≡ true → Distinct (now (entries .entry))) ⌝ }
     ensures no { λ r. ⌜ (r ≡ false → Distinct (now (entries .entry)) → ⊥) ⌝ }
 {
-    let mut j: usize = 0;
-    while j < entries.len() {
-        let x = entries[j];
-        if search::in_block(&entries[0..j], x) {
+    let mut i: usize = 0;
+    while i < entries.len() {
+        let x = entries[i];
+        if search::in_block(&entries[0..i], x) {
             return false;
         }
-        j += 1;
+        i += 1;
     }
     true
 }
 
+// Whether entries ascend strictly.
+pub fn rising(entries: &[u64]) -> bool
+    ensures yes { λ r. ⌜ (r ≡ true → Ascending (now (entries .entry))) ⌝ }
+    ensures no { λ r. ⌜ (r ≡ false → Ascending (now (entries .entry)) → ⊥) ⌝ }
+{
+    let mut i: usize = 1;
+    while i < entries.len() {
+        if entries[i - 1] >= entries[i] {
+            return false;
+        }
+        i += 1;
+    }
+    true
+}
+
+// Entries that ascend are told at once: those of a vector that was a trie, or was filled in order.
 pub fn distinct(entries: &[u64]) -> bool
     ensures yes { λ r. ⌜ (r ≡ true → Distinct (now (entries .entry))) ⌝ }
     ensures no { λ r. ⌜ (r ≡ false → Distinct (now (entries .entry)) → ⊥) ⌝ }
 {
+    if rising(entries) {
+        return true;
+    }
     if entries.len() < FEW {
         return distinct_searched(entries);
     }

@@ -1,4 +1,4 @@
-// Search of entries, a block at a time: a block is looked at without an early exit, which the compiler makes wide.
+// Search of entries, a block of 8 at a time: a block has no early exit in the source, so the compiler lays it out without a loop.
 ghost use mathlib.Core.Path.{_≡_};
 ghost use Rattle.lists.specs.Lists.{mem};
 ghost use Rattle.strip.specs.Entries.{Finds, Skipped, Placed};

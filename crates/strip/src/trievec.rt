@@ -15,7 +15,7 @@ impl TrieVec {
 
     // The empty container: a vector with no suffix.
     pub fn new() -> Self
-        ensures { λ r. ⌜ (r .kind ≡ 1) × (r .len ≡ 0) ⌝ }
+        ensures { λ r. ⌜ (r .kind ≡ 1) × (r .prefix ≡ 0) × (r .len ≡ 0) × (r .link ≡ 0) ⌝ }
     {
         Self {
             kind: 1,

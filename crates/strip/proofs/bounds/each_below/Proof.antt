@@ -35,7 +35,7 @@ returns c =
     let a = at .before .args in
     let t : ℕ → Bool = λ x. ltb x (a .bound) in
     sym (not-true-false (all t (a .entries .now)) (λ e.
-        let l : getD (a .entries .now) (at .loop .i) 0 < a .bound = ltb-true (getD (a .entries .now) (at .loop .i) 0) (a .bound) (all-places t (a .entries .now) e (at .loop .i) (omega arith)) in omega arith))
+    let l : getD (a .entries .now) (at .loop .i) 0 < a .bound = ltb-true (getD (a .entries .now) (at .loop .i) 0) (a .bound) (all-places t (a .entries .now) e (at .loop .i) (omega arith)) in omega arith))
 
 add-i : tie.Need-add-i Inv-loop μ-loop
 add-i c = search needs

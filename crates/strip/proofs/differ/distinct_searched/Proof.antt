@@ -1,4 +1,4 @@
--- No entry before j stands among those before it. Assumes nothing.
+-- No entry before i stands among those before it. Assumes nothing.
 use borrow.Author.Needs.{needs}
 use mathlib.Core.Path.{_≡_, sym, ap, _∙_}
 use mathlib.Core.Bool.{false}
@@ -12,10 +12,10 @@ use Rattle.strip.proofs.differ.distinct_searched.Statement.{statement}
 use Rattle.strip.proofs.differ.distinct_searched.Tie as tie
 
 abbrev Inv-loop : tie.InvT-loop
-Inv-loop entries j₀ j = (j ≤ length entries) × ((k : ℕ) → k < j → mem (getD entries k 0) (take k entries) ≡ false)
+Inv-loop entries i₀ i = (i ≤ length entries) × ((k : ℕ) → k < i → mem (getD entries k 0) (take k entries) ≡ false)
 
 abbrev μ-loop : tie.MeasureT-loop
-μ-loop entries j₀ j = length entries - j
+μ-loop entries i₀ i = length entries - i
 
 loop-holds : tie.Need-loop-holds Inv-loop μ-loop
 loop-holds c = (omega arith, λ k l. absurd (omega arith))
@@ -42,12 +42,12 @@ returns : tie.Need-returns Inv-loop μ-loop
 returns c =
     let at = c .before .before .before .before .before in
     let xs = at .before .before .args .entries .now in
-    let j = at .loop .j in
-    let z : j - 0 ≡ j = omega arith in
-    answer-no xs j (omega arith) (sym (c .if1 .taken) ∙ c .before .in-block .ensures ∙ ap (λ (k : ℕ). mem (getD xs j 0) (take k xs)) z)
+    let i = at .loop .i in
+    let z : i - 0 ≡ i = omega arith in
+    answer-no xs i (omega arith) (sym (c .if1 .taken) ∙ c .before .in-block .ensures ∙ ap (λ (k : ℕ). mem (getD xs i 0) (take k xs)) z)
 
-add-j : tie.Need-add-j Inv-loop μ-loop
-add-j c = search needs
+add-i : tie.Need-add-i Inv-loop μ-loop
+add-i c = search needs
 
 loop-less : tie.Need-loop-less Inv-loop μ-loop
 loop-less c = search needs
@@ -56,12 +56,12 @@ loop-again : tie.Need-loop-again Inv-loop μ-loop
 loop-again c =
     let at = c .before .before .before .before .before in
     let xs = at .before .before .args .entries .now in
-    let j = at .loop .j in
-    let z : j ≡ j - 0 = omega arith in
-    (omega arith, below-more _ _ (at .loop .inv .1) (ap (λ (k : ℕ). mem (getD xs j 0) (take k xs)) z ∙ sym (c .before .in-block .ensures) ∙ c .if1 .left))
+    let i = at .loop .i in
+    let z : i ≡ i - 0 = omega arith in
+    (omega arith, below-more _ _ (at .loop .inv .1) (ap (λ (k : ℕ). mem (getD xs i 0) (take k xs)) z ∙ sym (c .before .in-block .ensures) ∙ c .if1 .left))
 
 returns-2 : tie.Need-returns-2 Inv-loop μ-loop
-returns-2 c = answer-yes (c .before .before .before .args .entries .now) (c .before .loop .j) (omega arith) (c .before .loop .inv .1)
+returns-2 c = answer-yes (c .before .before .before .args .entries .now) (c .before .loop .i) (omega arith) (c .before .loop .inv .1)
 
 pub distinct-searched-spec : {M : Type 1} → statement M
 distinct-searched-spec =
@@ -77,7 +77,7 @@ distinct-searched-spec =
     part-in-block-end
     in-block-requires
     returns
-    add-j
+    add-i
     loop-less
     loop-again
     returns-2)

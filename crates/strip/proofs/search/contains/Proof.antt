@@ -1,5 +1,5 @@
 -- A block that hits is in the entries; past blocks that miss only the rest counts. Assumes nothing.
-use mathlib.Core.Path.{_≡_, sym, ap, _∙_}
+use mathlib.Core.Path.{sym, ap, _∙_}
 use native.Mathlib.Omega.{arith}
 use Rattle.strip.proofs.MemberLaws.{mem-block, mem-rest}
 use borrow.Author.Needs.{needs}

@@ -1,8 +1,8 @@
 -- s does not stand before i, and i moves by whole blocks. Assumes nothing.
 use borrow.Author.Needs.{needs}
-use mathlib.Core.Path.{_≡_, refl, sym, ap, _∙_}
+use mathlib.Core.Path.{_≡_, sym, ap, _∙_}
 use mathlib.Core.Bool.{false}
-use Prim.Native.Nat.{ℕ, _+_, _-_, _≤_, _<_}
+use Prim.Native.Nat.{ℕ, _+_, _-_, _≤_}
 use native.Mathlib.Omega.{arith}
 use lib.ListN.{length, take, drop}
 use Rattle.lists.specs.Lists.{mem}
@@ -65,7 +65,7 @@ loop-again c =
       omega arith,
       search needs,
       mem-further (a .s) (a .entries .now) i 8
-      ∙ none-or (mem (a .s) (take i (a .entries .now))) (mem (a .s) (take 8 rest)) (at .loop .inv .2) (ap (λ (k : ℕ). mem (a .s) (take k rest)) z ∙ sym (c .before .in-block .ensures) ∙ c .if1 .left),
+          ∙ none-or (mem (a .s) (take i (a .entries .now))) (mem (a .s) (take 8 rest)) (at .loop .inv .2) (ap (λ (k : ℕ). mem (a .s) (take k rest)) z ∙ sym (c .before .in-block .ensures) ∙ c .if1 .left),
     )
 
 returns-2 : tie.Need-returns-2 Inv-loop μ-loop
