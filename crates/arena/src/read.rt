@@ -11,14 +11,15 @@ ghost use Rattle.region.specs.WellFormed.{NonEmpty};
 ghost use Rattle.arena.specs.Arena.{spareIn, nodesIn};
 use bitvector::word as bits;
 
-// Word i of node n.
+// Word i of node n. The part is taken first, so that in a loop its start is computed once.
 pub fn word(arena: &[u64], slots: usize, n: usize, i: usize) -> u64
     requires { ⌜ length (now arena) ≡ slots + nodeWords * slots ⌝ }
     requires { ⌜ n < slots ⌝ }
     requires { ⌜ i < nodeWords ⌝ }
     ensures { λ r. ⌜ r ≡ nodeWord (drop slots (now (arena .entry))) n i ⌝ }
 {
-    arena[slots + (n * 264 + i)]
+    let nodes = &arena[slots..];
+    nodes[n * 264 + i]
 }
 
 // Word 4: level+1, or 0 if free.

@@ -64,6 +64,9 @@ pub fn contains(arena: &[u64], slots: usize, b: usize, root: usize, suffix: u64)
     let spot = descend(arena, slots, b, root, suffix);
     let n = spot.n;
     let j = spot.j;
+    if j + 1 < b {
+        return false;
+    }
     read::test(arena, slots, n, byte(suffix, b, j))
 }
 
