@@ -1,16 +1,15 @@
 -- The set bits of words: the lowest comes first, a word with none adds nothing, and there are as many as the word has ones. Assumes nothing.
-use mathlib.Core.Path.{_≡_, refl, sym, ap, ap₂, _∙_, subst}
+use mathlib.Core.Path.{_≡_, refl, sym, ap, ap₂, _∙_}
 use mathlib.Core.Logic.{_≢_}
-use mathlib.Core.Bool.{Bool, true, false, cond}
+use mathlib.Core.Bool.{cond}
 use mathlib.Core.List.{List, [], _∷_, _++_, append-assoc, append-nil}
-use Prim.Native.Nat.{ℕ, zero, suc, _+_, _-_, _*_, _/_, _%_, _^_, _≤_, _<_}
+use Prim.Native.Nat.{ℕ, zero, suc, _+_, _*_, _/_, _%_, _^_, _≤_, _<_}
 use native.Mathlib.Omega.{arith}
 use native.Mathlib.Decide.{ℕ-discrete}
 use native.Mathlib.Nat.{add-zero, add-suc, suc-mul, mod-one, mod-eq-of-lt}
 use lib.Dec.{eqb}
 use lib.Count.{ones, onesIn}
-use lib.ListN.{length, getD, length-append}
-use borrow.Author.Tests.{eq-eqb, ne-eqb}
+use lib.ListN.{length, length-append}
 use Rattle.lists.specs.Lists.{each}
 use Rattle.lists.proofs.Same.{each-same}
 use Rattle.region.specs.Bits.{wordBit, bitAt}
@@ -57,7 +56,7 @@ each-each f (suc m) =
     ap₂ f q r))
     ∙ sym (each-append (λ x. f (x / 256) (x % 256)) (m * 256) 256) ∙ ap (each (λ x. f (x / 256) (x % 256))) z
 
-each-few : (f : ℕ → List ℕ) (n k : ℕ) → ((i : ℕ) → length (f i) ≤ k) → length (each f n) ≤ n * k
+pub each-few : (f : ℕ → List ℕ) (n k : ℕ) → ((i : ℕ) → length (f i) ≤ k) → length (each f n) ≤ n * k
 unfolding each
 each-few f zero k h = omega arith
 each-few f (suc n) k h = let i : length (each f n) ≤ n * k = each-few f n k h in omega (arith, h n, length-append (each f n) (f n), suc-mul n k)

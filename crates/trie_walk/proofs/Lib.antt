@@ -4,3 +4,4 @@ pub mod Numbers
 pub mod Copies
 pub mod Levels
 pub mod Runs
+pub mod Roots

@@ -1,18 +1,18 @@
 -- The numbers of a word's set bits, poured: the lowest is put first or dropped first, and all are as many as the word has ones. Assumes nothing.
-use mathlib.Core.Path.{_≡_, refl, sym, ap, ap₂, _∙_}
+use mathlib.Core.Path.{_≡_, sym, ap, ap₂, _∙_}
 use mathlib.Core.Logic.{_≢_}
 use mathlib.Core.List.{List, [], _∷_, _++_}
-use Prim.Native.Nat.{ℕ, zero, suc, _+_, _-_, _*_, _/_, _%_, _^_, _≤_, _<_}
+use Prim.Native.Nat.{ℕ, suc, _+_, _-_, _*_, _/_, _%_, _^_, _≤_, _<_}
 use native.Mathlib.Omega.{arith}
 use native.Mathlib.Numerals.{add-one}
 use lib.Count.{ones}
 use lib.ListN.{length, getD, drop, set}
-use lib.Seq.{drop-drop, drop-nil}
+use lib.Seq.{drop-nil}
 use Rattle.region.specs.Bits.{wordBit}
 use Rattle.bitvector.specs.Maps.{Lowest}
 use Rattle.trie_walk.specs.Pour.{state, poured}
 use Rattle.trie_walk.specs.Words.{behind, numbersIn, behindAll, suffixes}
-use Rattle.trie_walk.proofs.Pours.{poured-append, poured-none, poured-put, poured-past, poured-over}
+use Rattle.trie_walk.proofs.Pours.{poured-append, poured-put, poured-past, poured-over}
 use Rattle.trie_walk.proofs.Behind.{behind-none, behind-same, behind-first, behind-length}
 
 -- w's lowest set bit is k, and r is w without it
@@ -74,11 +74,18 @@ next-word ws g e n h =
     let z : n - e ≡ suc (n - (e + 1)) = omega arith in
     ap (behindAll ws g e) z ∙ ap (λ (i : ℕ). behind (ws e) (λ k. g (e * 64 + k)) ++ behindAll ws g i (n - (e + 1))) (sym (add-one e))
 
--- the suffixes of a word of the last level, and then those of the words behind it
+-- a word without a set bit adds nothing
+pub empty-word : (ws : ℕ → ℕ) (g : ℕ → List ℕ) (e n : ℕ) → e < n → ws e ≡ 0 → behindAll ws g e (n - e) ≡ behindAll ws g (e + 1) (n - (e + 1))
+empty-word ws g e n h z =
+    next-word ws g e n h ∙ ap (λ (xs : List ℕ). xs ++ behindAll ws g (e + 1) (n - (e + 1))) (ap (λ (w : ℕ). behind w (λ k. g (e * 64 + k))) z ∙ behind-none (λ k. g (e * 64 + k)))
+
+-- the suffixes of n words of the last level, from word e on
+abbrev pub suffixesFrom : List ℕ → List ℕ → ℕ → ℕ → List ℕ
+suffixesFrom maps leads n e = behindAll (λ j. getD maps j 0) (λ x. (getD leads (x / 256) 0 * 256 + x % 256) ∷ []) e (n - e)
+
+-- those of word e, and then those of the words behind it
 pub next-suffixes : (maps leads : List ℕ) (e n s i : ℕ) (o : List ℕ) → e < n
-    → poured (behindAll (λ j. getD maps j 0) (λ x. (getD leads (x / 256) 0 * 256 + x % 256) ∷ []) e (n - e)) (state s i o)
-    ≡ poured (behindAll (λ j. getD maps j 0) (λ x. (getD leads (x / 256) 0 * 256 + x % 256) ∷ []) (e + 1) (n - (e + 1)))
-    (poured (numbersIn (getD maps e 0) (getD leads (e / 4) 0 * 256 + e % 4 * 64)) (state s i o))
+    → poured (suffixesFrom maps leads n e) (state s i o) ≡ poured (suffixesFrom maps leads n (e + 1)) (poured (numbersIn (getD maps e 0) (getD leads (e / 4) 0 * 256 + e % 4 * 64)) (state s i o))
 next-suffixes maps leads e n s i o h =
     ap (λ (xs : List ℕ). poured xs (state s i o)) (next-word ws g e n h ∙ ap (λ (xs : List ℕ). xs ++ rest) (behind-same (getD maps e 0) (λ k. (base + k) ∷ []) (λ k. g (e * 64 + k)) same))
     ∙ poured-append (numbersIn (getD maps e 0) base) rest (state s i o)

@@ -1,9 +1,9 @@
 -- Pouring a list goes value by value, so that two lists behind each other are poured one after the other; from the first place on a window is written. Assumes nothing.
 use mathlib.Core.Path.{_≡_, refl, sym, ap, ap₂, _∙_}
-use mathlib.Core.List.{List, [], _∷_, _++_, append-assoc}
+use mathlib.Core.List.{List, [], _∷_, _++_}
 use Prim.Native.Nat.{ℕ, zero, suc, _+_, _-_, _≤_, _<_}
 use native.Mathlib.Omega.{arith}
-use native.Mathlib.Nat.{add-zero, add-suc}
+use native.Mathlib.Nat.{add-zero}
 use native.Mathlib.Numerals.{unary-clauses}
 use native.Mathlib.Decide.{decLe}
 use lib.ListN.{length, take, drop, set, length-append, drop-of-length-le}

@@ -2,12 +2,12 @@
 use mathlib.Core.Path.{_≡_, refl, sym, ap, ap₂, _∙_, subst}
 use mathlib.Core.Logic.{_≢_}
 use mathlib.Core.List.{List, [], _∷_, _++_, append-assoc}
-use Prim.Native.Nat.{ℕ, zero, suc, _+_, _-_, _*_, _/_, _%_, _^_, _≤_, _<_}
+use Prim.Native.Nat.{ℕ, suc, _+_, _-_, _*_, _/_, _%_, _^_, _≤_, _<_}
 use native.Mathlib.Omega.{arith}
 use native.Mathlib.Decide.{ℕ-discrete}
 use native.Mathlib.Nat.{lt-of-lt-of-le}
 use lib.Pow.{pow-mono}
-use lib.ListN.{length, getD, set, length-set, length-append}
+use lib.ListN.{length, getD, set, length-set}
 use Rattle.lists.specs.Lists.{each}
 use Rattle.region.specs.Bits.{wordBit}
 use Rattle.region.specs.Nodes.{Nodes}
@@ -26,17 +26,10 @@ none-waits : (v : Nodes) (d : ℕ) (nodes leads : List ℕ) → allListed v d no
 unfolding each
 none-waits v d nodes leads = refl
 
--- the set bits that are left: of w, and of the words from e on
-abbrev pub left : List ℕ → ℕ → ℕ → ℕ → ℕ
-left maps count e w = length (behind w (λ k. 0 ∷ [])) + length (behindAll (λ j. getD maps j 0) (λ x. 0 ∷ []) e (4 * count - e))
-
-pub left-load : (maps : List ℕ) (count e w : ℕ) → w ≡ 0 → e < 4 * count → left maps count (e + 1) (getD maps e 0) ≡ left maps count e w
-left-load maps count e w z h =
-    let a : length (behind w (λ k. 0 ∷ [])) ≡ 0 = ap (λ (x : ℕ). length (behind x (λ k. 0 ∷ []))) z ∙ ap length (behind-none (λ k. 0 ∷ [])) in
-    omega (arith, ap length (next-word (λ j. getD maps j 0) (λ x. 0 ∷ []) e (4 * count) h), length-append (behind (getD maps e 0) (λ k. 0 ∷ [])) (behindAll (λ j. getD maps j 0) (λ x. 0 ∷ []) (e + 1) (4 * count - (e + 1))))
-
-pub left-push : (maps : List ℕ) (count e : ℕ) {w k r : ℕ} → Without w k r → left maps count e w ≡ suc (left maps count e r)
-left-push maps count e W = let a = ap length (first W (λ k. 0 ∷ [])) in omega arith
+-- what is ahead: the children that wait, what is left of word w, whose first bit stands at place p, and the words from e on
+abbrev pub ahead : ℕ → ℕ → ℕ → List ℕ → List ℕ → List ℕ → List ℕ → List ℕ → List ℕ → ℕ → ℕ → ℕ → ℕ → List ℕ
+ahead N d count l nodes leads maps children leads′ c e w p =
+    allListed (nodesIn N l) d children leads′ c ++ (behind w (λ k. deeper (nodesIn N l) d nodes leads (p + k)) ++ behindAll (λ j. getD maps j 0) (deeper (nodesIn N l) d nodes leads) e (4 * count - e))
 
 -- the state of the loop, where the whole list W was to be poured into S
 module _ (N b d count : ℕ) (l nodes leads maps W : List ℕ) (S : Pour) where
@@ -62,7 +55,7 @@ module _ (N b d count : ℕ) (l nodes leads maps W : List ℕ) (S : Pour) where
     pub row : Row N b d c children leads′ l
     pub place : (k : ℕ) → k < 64 → wordBit w k ≡ 1 → p + k < 256 * count
     pub bits : (k : ℕ) → k < 64 → wordBit w k ≡ 1 → v .bit (getD nodes ((p + k) / 256) 0) ((p + k) % 256) ≡ 1
-    pub same : poured (allListed v d children leads′ c ++ rest w p e) (state skip at out) ≡ poured W S
+    pub same : poured (ahead N d count l nodes leads maps children leads′ c e w p) (state skip at out) ≡ poured W S
 
   -- no child waits yet, and all words are left
   pub run-start : Row N b (suc d) count nodes leads l → 1 ≤ d → Held N l nodes maps count → W ≡ allListed v (suc d) nodes leads count
@@ -77,8 +70,8 @@ module _ (N b d count : ℕ) (l nodes leads maps W : List ℕ) (S : Pour) where
     place = λ k h z. absurd (zero-one (sym (bit-zero k) ∙ z));
     bits = λ k h z. absurd (zero-one (sym (bit-zero k) ∙ z));
     same = ap (λ (xs : List ℕ). poured xs S)
-    (ap₂ _++_ (none-waits v d children leads′) (ap (λ (xs : List ℕ). xs ++ words 0) (behind-none (λ k. g (0 + k))))
-    ∙ start-words (λ j. getD maps j 0) g (4 * count) ∙ sym (all-behind N d l nodes leads maps count H) ∙ sym e);
+        (ap₂ _++_ (none-waits v d children leads′) (ap (λ (xs : List ℕ). xs ++ words 0) (behind-none (λ k. g (0 + k))))
+        ∙ start-words (λ j. getD maps j 0) g (4 * count) ∙ sym (all-behind N d l nodes leads maps count H) ∙ sym e);
   }
     where
       zero-one : _≡_ {A = ℕ} 0 1 → ⊥
@@ -100,9 +93,9 @@ module _ (N b d count : ℕ) (l nodes leads maps W : List ℕ) (S : Pour) where
       row = r .row;
       place = λ k u q. omega arith;
       bits = λ k u q.
-        let a : (e * 64 + k) / 64 ≡ e = omega arith in
-        let f : (e * 64 + k) % 64 ≡ k = omega arith in
-        bit-held N l nodes maps count H (e * 64 + k) (omega arith) ∙ ap₂ (λ (x y : ℕ). wordBit (getD maps x 0) y) a f ∙ q;
+          let a : (e * 64 + k) / 64 ≡ e = omega arith in
+          let f : (e * 64 + k) % 64 ≡ k = omega arith in
+          bit-held N l nodes maps count H (e * 64 + k) (omega arith) ∙ ap₂ (λ (x y : ℕ). wordBit (getD maps x 0) y) a f ∙ q;
       same = ap (λ (xs : List ℕ). poured (allListed v d children leads′ c ++ xs) (state skip at out)) (sym (word-done z ∙ next-word (λ j. getD maps j 0) g e (4 * count) h)) ∙ r .same;
     }
 
@@ -118,7 +111,7 @@ module _ (N b d count : ℕ) (l nodes leads maps W : List ℕ) (S : Pour) where
       place = r .place;
       bits = r .bits;
       same = ap (λ (xs : List ℕ). poured (xs ++ rest w p e) (state s i o)) (none-waits v d children leads′) ∙ ap (poured (rest w p e)) q
-      ∙ sym (poured-append (allListed v d children leads′ c) (rest w p e) (state skip at out)) ∙ r .same;
+          ∙ sym (poured-append (allListed v d children leads′ c) (rest w p e) (state skip at out)) ∙ r .same;
     }
 
     -- the child behind the lowest bit waits
@@ -131,7 +124,7 @@ module _ (N b d count : ℕ) (l nodes leads maps W : List ℕ) (S : Pour) where
       children-long = length-set children c m ∙ r .children-long;
       leads-long = length-set leads′ c q ∙ r .leads-long;
       row = row-more N b d c children leads′ l m q (r .row) (omega (arith, r .children-long)) (omega (arith, r .leads-long))
-      (child-left N b d count nodes leads l R (r .row .some) (p + k) here is-set) (child-lead N b d count nodes leads l R (r .row .some) (p + k) here is-set);
+          (child-left N b d count nodes leads l R (r .row .some) (p + k) here is-set) (child-lead N b d count nodes leads l R (r .row .some) (p + k) here is-set);
       place = λ j l z. r .place j l (old j z);
       bits = λ j l z. r .bits j l (old j z);
       same = ap (λ (xs : List ℕ). poured xs (state skip at out)) shift ∙ r .same;
@@ -198,7 +191,7 @@ start N D count l nodes leads maps S children leads′ B n H hc hl =
       whole = R;
       held = H;
       run = run-start N (B .levels) (D - 1) count l nodes leads maps (allListed (nodesIn N l) D nodes leads count) S R (omega arith) H
-      (ap (λ (k : ℕ). allListed (nodesIn N l) k nodes leads count) z) children leads′ hc hl;
+          (ap (λ (k : ℕ). allListed (nodesIn N l) k nodes leads count) z) children leads′ hc hl;
     }
 
 module _ {N d count : ℕ} {l nodes leads maps W : List ℕ} {S : Pour} {out children leads′ : List ℕ} {c skip at e w p : ℕ} (r : Runs N d count l nodes leads maps W S out children leads′ c skip at e w p) where
@@ -221,7 +214,7 @@ module _ {N d count : ℕ} {l nodes leads maps W : List ℕ} {S : Pour} {out chi
     push-node = r .whole .node ((p + k) / 256) (omega (arith, push-place)) .in-range
 
     pub push-lead : getD leads ((p + k) / 256) 0 < 2 ^ 32
-    push-lead = lt-of-lt-of-le (r .whole .lead ((p + k) / 256) (omega (arith, push-place))) (pow-mono (omega arith))
+    push-lead = let z : 8 * (5 - suc d) ≤ 32 = omega arith in lt-of-lt-of-le (r .whole .lead ((p + k) / 256) (omega (arith, push-place))) (pow-mono z)
 
   pub push : {k t : ℕ} → Without w k t → c < 32
       → (children″ leads″ : List ℕ) → children″ ≡ set children c (nodesIn N l .child (getD nodes ((p + k) / 256) 0) ((p + k) % 256)) → leads″ ≡ set leads′ c (getD leads ((p + k) / 256) 0 * 256 + (p + k) % 256)
@@ -233,8 +226,47 @@ module _ {N d count : ℕ} {l nodes leads maps W : List ℕ} {S : Pour} {out chi
     run = rw (ec, el) (run-push N (r .levels) d count l nodes leads maps W S (r .run) T h (r .whole));
   }
 
-  pub done : (s i : ℕ) (o : List ℕ) → w ≡ 0 → e ≡ 4 * count → state s i o ≡ poured (allListed (nodesIn N l) d children leads′ c) (state skip at out) → state s i o ≡ poured W S
-  done s i o z h q = run-end N (r .levels) d count l nodes leads maps W S (r .run) s i o z (omega arith) q
+  pub done : (s i : ℕ) (o : List ℕ) → w ≡ 0 → 4 * count ≤ e → state s i o ≡ poured (allListed (nodesIn N l) d children leads′ c) (state skip at out) → state s i o ≡ poured W S
+  done s i o z h q = run-end N (r .levels) d count l nodes leads maps W S (r .run) s i o z h q
 
   pub full : skip ≡ 0 → length out ≤ at → state skip at out ≡ poured W S
   full z h = run-full N (r .levels) d count l nodes leads maps W S (r .run) z h
+
+  -- the same, with what is ahead now as the whole
+  pub anew : Runs N d count l nodes leads maps (ahead N d count l nodes leads maps children leads′ c e w p) (state skip at out) out children leads′ c skip at e w p
+  anew = record {
+    levels = r .levels;
+    whole = r .whole;
+    held = r .held;
+    run = record {
+      few = r .run .few;
+      inside = r .run .inside;
+      long = refl;
+      children-long = r .run .children-long;
+      leads-long = r .run .leads-long;
+      row = r .run .row;
+      place = r .run .place;
+      bits = r .run .bits;
+      same = refl;
+    };
+  }
+
+  -- and back to the whole that it was
+  pub back : {out′ children″ leads″ : List ℕ} {c′ skip′ at′ w′ : ℕ} → Runs N d count l nodes leads maps (ahead N d count l nodes leads maps children leads′ c e w p) (state skip at out) out′ children″ leads″ c′ skip′ at′ e w′ p
+      → Runs N d count l nodes leads maps W S out′ children″ leads″ c′ skip′ at′ e w′ p
+  back q = record {
+    levels = q .levels;
+    whole = q .whole;
+    held = q .held;
+    run = record {
+      few = q .run .few;
+      inside = q .run .inside;
+      long = q .run .long ∙ r .run .long;
+      children-long = q .run .children-long;
+      leads-long = q .run .leads-long;
+      row = q .run .row;
+      place = q .run .place;
+      bits = q .run .bits;
+      same = q .run .same ∙ r .run .same;
+    };
+  }

@@ -7,7 +7,6 @@ ghost use Rattle.region.specs.Nodes.{nodeWord};
 ghost use Rattle.arena.specs.Arena.{nodesIn};
 ghost use Rattle.trie_walk.specs.Pour.{state, poured};
 ghost use Rattle.trie_walk.specs.Batch.{Batch, Copied, allListed};
-
 use super::Step;
 use super::words;
 use arena::read;
@@ -97,30 +96,38 @@ pub(crate) fn below(
     let mut e = 0;
     let mut w: u64 = 0;
     let mut p = 0;
-    loop {
-        if w == 0 {
-            if e == 4 * count {
-                return below(arena, slots, d - 1, &children, &behind, c, skip, out, at);
-            }
-            w = maps[e];
-            p = e * 64;
-            e += 1;
-        } else if c == 32 {
-            let s = below(arena, slots, d - 1, &children, &behind, c, skip, out, at);
-            skip = s.skip;
-            at = s.at;
-            c = 0;
-            // Nothing is left to pass over, and the output is full.
-            if skip == 0 {
-                if at >= out.len() {
-                    return Step { skip, at };
+    while e < 4 * count {
+        w = maps[e];
+        p = e * 64;
+        e += 1;
+        while w != 0 {
+            if c == 32 {
+                let s = below(arena, slots, d - 1, &children, &behind, c, skip, out, at);
+                skip = s.skip;
+                at = s.at;
+                c = 0;
+                // Nothing is left to pass over, and the output is full.
+                if skip == 0 {
+                    if at >= out.len() {
+                        return Step { skip, at };
+                    }
                 }
+            } else {
+                let k = word::lowest(w);
+                push(
+                    arena,
+                    slots,
+                    nodes,
+                    leads,
+                    p + k,
+                    &mut children,
+                    &mut behind,
+                    c,
+                );
+                c += 1;
+                w = word::without(w, k);
             }
-        } else {
-            let k = word::lowest(w);
-            push(arena, slots, nodes, leads, p + k, &mut children, &mut behind, c);
-            c += 1;
-            w = word::without(w, k);
         }
     }
+    below(arena, slots, d - 1, &children, &behind, c, skip, out, at)
 }

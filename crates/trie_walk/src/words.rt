@@ -4,7 +4,6 @@ ghost use Prim.Native.Nat.{ℕ, _+_, _*_, _^_, _<_, _≤_};
 ghost use lib.ListN.{drop, getD};
 ghost use Rattle.trie_walk.specs.Pour.{state, poured};
 ghost use Rattle.trie_walk.specs.Words.{numbersIn, suffixes};
-
 use super::Step;
 use bitvector::word;
 
@@ -77,10 +76,15 @@ pub(crate) fn last(
     let mut at = at;
     let mut e = 0;
     while e < 4 * count {
-        let s = pour(maps[e], leads[e / 4] * 256 + ((e % 4) as u64) * 64, skip, out, at);
-        skip = s.skip;
-        at = s.at;
-        e += 1;
+        let w = maps[e];
+        if w == 0 {
+            e += 1;
+        } else {
+            let s = pour(w, leads[e / 4] * 256 + ((e % 4) as u64) * 64, skip, out, at);
+            skip = s.skip;
+            at = s.at;
+            e += 1;
+        }
     }
     Step { skip, at }
 }

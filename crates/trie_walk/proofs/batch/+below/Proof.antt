@@ -1,11 +1,23 @@
-use Prim.Native.Nat.{ℕ, _<_}
+-- One level of the walk: the loop's invariant is `Runs`, and each turn is one of its laws. The measure of the recursion is the levels left. Assumes nothing.
+use mathlib.Core.Path.{_≡_, refl, sym, ap, _∙_, subst}
+use mathlib.Core.List.{List}
+use Prim.Native.Nat.{ℕ, _+_, _-_, _*_, _/_, _^_, _<_}
+use native.Mathlib.Omega.{arith}
+use lib.ListN.{length, getD}
 use borrow.Fn.Kinds.{In}
 use borrow.Fn.PlainCycle.{Measures, is, falls, and}
+use Rattle.arena.specs.Arena.{nodesIn}
+use Rattle.bitvector.proofs.word.lowest.Reads as lowest-reads
+use Rattle.bitvector.proofs.word.without.Reads as without-reads
+use Rattle.trie_walk.specs.Pour.{state, poured}
+use Rattle.trie_walk.specs.Words.{numbersIn}
+use Rattle.trie_walk.specs.Batch.{allListed}
+use Rattle.trie_walk.proofs.Numbers.{Without, fewer}
+use Rattle.trie_walk.proofs.Levels.{all-suffixes}
+use Rattle.trie_walk.proofs.Runs.{Runs, ahead, start, waiting, load, flush, push-place, push-node, push-lead, push, done, full, anew, back}
 use Rattle.trie_walk.proofs.batch.below.Reads as below
 use Rattle.trie_walk.proofs.batch.below.Kinds as below-kinds
 use Rattle.trie_walk.proofs.batch.+below.Lts-below as below-lts
-use Rattle.bitvector.proofs.word.lowest.Reads as lowest-reads
-use Rattle.bitvector.proofs.word.without.Reads as without-reads
 use Rattle.trie_walk.proofs.batch.gather.Reads as gather-reads
 use Rattle.trie_walk.proofs.batch.push.Reads as push-reads
 use Rattle.trie_walk.proofs.words.last.Reads as last-reads
@@ -13,7 +25,7 @@ use Rattle.trie_walk.proofs.batch.+below.{statement}
 use Rattle.trie_walk.proofs.batch.+below.Tie.{close}
 
 abbrev μ-below : Measures 4 below-kinds.ps ℕ
-μ-below κs a = ?
+μ-below κs a = a .1 .1 .0
 
 abbrev below-at : ℕ → In 4 below-kinds.ps
 below-at t = and 4 below-kinds.ps (is 4 below-kinds.ps μ-below t) below.Pre
@@ -21,543 +33,8 @@ below-at t = and 4 below-kinds.ps (is 4 below-kinds.ps μ-below t) below.Pre
 abbrev below-below : ℕ → In 4 below-kinds.ps
 below-below t = and 4 below-kinds.ps (falls 4 below-kinds.ps _<_ μ-below t) below.Pre
 
-abbrev below-Inv-loop : below-lts.InvT-loop
-below-Inv-loop arena slots d nodes leads count skip out₀ at maps children₀ behind₀ c₀ skip₀ at₀ e₀ w₀ p₀ out children behind c skip' at' e w p =
-    ?
-
-abbrev below-μ-loop : below-lts.MeasureT-loop
-below-μ-loop arena slots d nodes leads count skip out₀ at maps children₀ behind₀ c₀ skip₀ at₀ e₀ w₀ p₀ out children behind c skip' at' e w p =
-    ?
-
--- src/batch.rt:87:5
-below-gather-requires : (t : ℕ) → below-lts.Need-gather-requires (
-  gather-reads.Asked,
-  gather-reads.Learnt,
-  last-reads.Asked,
-  last-reads.Learnt,
-  below-below t,
-  below.Post,
-  lowest-reads.Asked,
-  lowest-reads.Learnt,
-  push-reads.Asked,
-  push-reads.Learnt,
-  without-reads.Asked,
-  without-reads.Learnt,
-) (below-at t) below.Post below-Inv-loop below-μ-loop
-below-gather-requires t c κs = ?
-
--- src/batch.rt:89:9
-below-last-requires : (t : ℕ) → below-lts.Need-last-requires (
-  gather-reads.Asked,
-  gather-reads.Learnt,
-  last-reads.Asked,
-  last-reads.Learnt,
-  below-below t,
-  below.Post,
-  lowest-reads.Asked,
-  lowest-reads.Learnt,
-  push-reads.Asked,
-  push-reads.Learnt,
-  without-reads.Asked,
-  without-reads.Learnt,
-) (below-at t) below.Post below-Inv-loop below-μ-loop
-below-last-requires t c κs = ?
-
--- src/batch.rt:89:9
-below-same-length : (t : ℕ) → below-lts.Need-same-length (
-  gather-reads.Asked,
-  gather-reads.Learnt,
-  last-reads.Asked,
-  last-reads.Learnt,
-  below-below t,
-  below.Post,
-  lowest-reads.Asked,
-  lowest-reads.Learnt,
-  push-reads.Asked,
-  push-reads.Learnt,
-  without-reads.Asked,
-  without-reads.Learnt,
-) (below-at t) below.Post below-Inv-loop below-μ-loop
-below-same-length t c = ?
-
--- src/batch.rt:89:9
-below-returns : (t : ℕ) → below-lts.Need-returns (
-  gather-reads.Asked,
-  gather-reads.Learnt,
-  last-reads.Asked,
-  last-reads.Learnt,
-  below-below t,
-  below.Post,
-  lowest-reads.Asked,
-  lowest-reads.Learnt,
-  push-reads.Asked,
-  push-reads.Learnt,
-  without-reads.Asked,
-  without-reads.Learnt,
-) (below-at t) below.Post below-Inv-loop below-μ-loop
-below-returns t c = ?
-
--- src/batch.rt:100:5
-below-loop-holds : (t : ℕ) → below-lts.Need-loop-holds (
-  gather-reads.Asked,
-  gather-reads.Learnt,
-  last-reads.Asked,
-  last-reads.Learnt,
-  below-below t,
-  below.Post,
-  lowest-reads.Asked,
-  lowest-reads.Learnt,
-  push-reads.Asked,
-  push-reads.Learnt,
-  without-reads.Asked,
-  without-reads.Learnt,
-) (below-at t) below.Post below-Inv-loop below-μ-loop
-below-loop-holds t c = ?
-
--- src/batch.rt:102:21
-below-mul-if3 : (t : ℕ) → below-lts.Need-mul-if3 (
-  gather-reads.Asked,
-  gather-reads.Learnt,
-  last-reads.Asked,
-  last-reads.Learnt,
-  below-below t,
-  below.Post,
-  lowest-reads.Asked,
-  lowest-reads.Learnt,
-  push-reads.Asked,
-  push-reads.Learnt,
-  without-reads.Asked,
-  without-reads.Learnt,
-) (below-at t) below.Post below-Inv-loop below-μ-loop
-below-mul-if3 t c = ?
-
--- src/batch.rt:103:44
-below-sub-below : (t : ℕ) → below-lts.Need-sub-below (
-  gather-reads.Asked,
-  gather-reads.Learnt,
-  last-reads.Asked,
-  last-reads.Learnt,
-  below-below t,
-  below.Post,
-  lowest-reads.Asked,
-  lowest-reads.Learnt,
-  push-reads.Asked,
-  push-reads.Learnt,
-  without-reads.Asked,
-  without-reads.Learnt,
-) (below-at t) below.Post below-Inv-loop below-μ-loop
-below-sub-below t c = ?
-
--- src/batch.rt:103:17
-below-below-requires : (t : ℕ) → below-lts.Need-below-requires (
-  gather-reads.Asked,
-  gather-reads.Learnt,
-  last-reads.Asked,
-  last-reads.Learnt,
-  below-below t,
-  below.Post,
-  lowest-reads.Asked,
-  lowest-reads.Learnt,
-  push-reads.Asked,
-  push-reads.Learnt,
-  without-reads.Asked,
-  without-reads.Learnt,
-) (below-at t) below.Post below-Inv-loop below-μ-loop
-below-below-requires t c κs = ?
-
--- src/batch.rt:103:17
-below-same-length-2 : (t : ℕ) → below-lts.Need-same-length-2 (
-  gather-reads.Asked,
-  gather-reads.Learnt,
-  last-reads.Asked,
-  last-reads.Learnt,
-  below-below t,
-  below.Post,
-  lowest-reads.Asked,
-  lowest-reads.Learnt,
-  push-reads.Asked,
-  push-reads.Learnt,
-  without-reads.Asked,
-  without-reads.Learnt,
-) (below-at t) below.Post below-Inv-loop below-μ-loop
-below-same-length-2 t c = ?
-
--- src/batch.rt:103:17
-below-returns-2 : (t : ℕ) → below-lts.Need-returns-2 (
-  gather-reads.Asked,
-  gather-reads.Learnt,
-  last-reads.Asked,
-  last-reads.Learnt,
-  below-below t,
-  below.Post,
-  lowest-reads.Asked,
-  lowest-reads.Learnt,
-  push-reads.Asked,
-  push-reads.Learnt,
-  without-reads.Asked,
-  without-reads.Learnt,
-) (below-at t) below.Post below-Inv-loop below-μ-loop
-below-returns-2 t c = ?
-
--- src/batch.rt:105:17
-below-mul-w : (t : ℕ) → below-lts.Need-mul-w (
-  gather-reads.Asked,
-  gather-reads.Learnt,
-  last-reads.Asked,
-  last-reads.Learnt,
-  below-below t,
-  below.Post,
-  lowest-reads.Asked,
-  lowest-reads.Learnt,
-  push-reads.Asked,
-  push-reads.Learnt,
-  without-reads.Asked,
-  without-reads.Learnt,
-) (below-at t) below.Post below-Inv-loop below-μ-loop
-below-mul-w t c = ?
-
--- src/batch.rt:105:17
-below-array-read-w : (t : ℕ) → below-lts.Need-array-read-w (
-  gather-reads.Asked,
-  gather-reads.Learnt,
-  last-reads.Asked,
-  last-reads.Learnt,
-  below-below t,
-  below.Post,
-  lowest-reads.Asked,
-  lowest-reads.Learnt,
-  push-reads.Asked,
-  push-reads.Learnt,
-  without-reads.Asked,
-  without-reads.Learnt,
-) (below-at t) below.Post below-Inv-loop below-μ-loop
-below-array-read-w t c = ?
-
--- src/batch.rt:106:17
-below-mul-p : (t : ℕ) → below-lts.Need-mul-p (
-  gather-reads.Asked,
-  gather-reads.Learnt,
-  last-reads.Asked,
-  last-reads.Learnt,
-  below-below t,
-  below.Post,
-  lowest-reads.Asked,
-  lowest-reads.Learnt,
-  push-reads.Asked,
-  push-reads.Learnt,
-  without-reads.Asked,
-  without-reads.Learnt,
-) (below-at t) below.Post below-Inv-loop below-μ-loop
-below-mul-p t c = ?
-
--- src/batch.rt:107:13
-below-add-e : (t : ℕ) → below-lts.Need-add-e (
-  gather-reads.Asked,
-  gather-reads.Learnt,
-  last-reads.Asked,
-  last-reads.Learnt,
-  below-below t,
-  below.Post,
-  lowest-reads.Asked,
-  lowest-reads.Learnt,
-  push-reads.Asked,
-  push-reads.Learnt,
-  without-reads.Asked,
-  without-reads.Learnt,
-) (below-at t) below.Post below-Inv-loop below-μ-loop
-below-add-e t c = ?
-
--- src/batch.rt:100:5
-below-loop-less : (t : ℕ) → below-lts.Need-loop-less (
-  gather-reads.Asked,
-  gather-reads.Learnt,
-  last-reads.Asked,
-  last-reads.Learnt,
-  below-below t,
-  below.Post,
-  lowest-reads.Asked,
-  lowest-reads.Learnt,
-  push-reads.Asked,
-  push-reads.Learnt,
-  without-reads.Asked,
-  without-reads.Learnt,
-) (below-at t) below.Post below-Inv-loop below-μ-loop
-below-loop-less t c = ?
-
--- src/batch.rt:100:5
-below-loop-again : (t : ℕ) → below-lts.Need-loop-again (
-  gather-reads.Asked,
-  gather-reads.Learnt,
-  last-reads.Asked,
-  last-reads.Learnt,
-  below-below t,
-  below.Post,
-  lowest-reads.Asked,
-  lowest-reads.Learnt,
-  push-reads.Asked,
-  push-reads.Learnt,
-  without-reads.Asked,
-  without-reads.Learnt,
-) (below-at t) below.Post below-Inv-loop below-μ-loop
-below-loop-again t c = ?
-
--- src/batch.rt:109:41
-below-sub-below-2 : (t : ℕ) → below-lts.Need-sub-below-2 (
-  gather-reads.Asked,
-  gather-reads.Learnt,
-  last-reads.Asked,
-  last-reads.Learnt,
-  below-below t,
-  below.Post,
-  lowest-reads.Asked,
-  lowest-reads.Learnt,
-  push-reads.Asked,
-  push-reads.Learnt,
-  without-reads.Asked,
-  without-reads.Learnt,
-) (below-at t) below.Post below-Inv-loop below-μ-loop
-below-sub-below-2 t c = ?
-
--- src/batch.rt:109:17
-below-below-requires-2 : (t : ℕ) → below-lts.Need-below-requires-2 (
-  gather-reads.Asked,
-  gather-reads.Learnt,
-  last-reads.Asked,
-  last-reads.Learnt,
-  below-below t,
-  below.Post,
-  lowest-reads.Asked,
-  lowest-reads.Learnt,
-  push-reads.Asked,
-  push-reads.Learnt,
-  without-reads.Asked,
-  without-reads.Learnt,
-) (below-at t) below.Post below-Inv-loop below-μ-loop
-below-below-requires-2 t c κs = ?
-
--- src/batch.rt:116:21
-below-same-length-3 : (t : ℕ) → below-lts.Need-same-length-3 (
-  gather-reads.Asked,
-  gather-reads.Learnt,
-  last-reads.Asked,
-  last-reads.Learnt,
-  below-below t,
-  below.Post,
-  lowest-reads.Asked,
-  lowest-reads.Learnt,
-  push-reads.Asked,
-  push-reads.Learnt,
-  without-reads.Asked,
-  without-reads.Learnt,
-) (below-at t) below.Post below-Inv-loop below-μ-loop
-below-same-length-3 t c = ?
-
--- src/batch.rt:116:21
-below-returns-3 : (t : ℕ) → below-lts.Need-returns-3 (
-  gather-reads.Asked,
-  gather-reads.Learnt,
-  last-reads.Asked,
-  last-reads.Learnt,
-  below-below t,
-  below.Post,
-  lowest-reads.Asked,
-  lowest-reads.Learnt,
-  push-reads.Asked,
-  push-reads.Learnt,
-  without-reads.Asked,
-  without-reads.Learnt,
-) (below-at t) below.Post below-Inv-loop below-μ-loop
-below-returns-3 t c = ?
-
--- src/batch.rt:100:5
-below-loop-less-2 : (t : ℕ) → below-lts.Need-loop-less-2 (
-  gather-reads.Asked,
-  gather-reads.Learnt,
-  last-reads.Asked,
-  last-reads.Learnt,
-  below-below t,
-  below.Post,
-  lowest-reads.Asked,
-  lowest-reads.Learnt,
-  push-reads.Asked,
-  push-reads.Learnt,
-  without-reads.Asked,
-  without-reads.Learnt,
-) (below-at t) below.Post below-Inv-loop below-μ-loop
-below-loop-less-2 t c = ?
-
--- src/batch.rt:100:5
-below-loop-again-2 : (t : ℕ) → below-lts.Need-loop-again-2 (
-  gather-reads.Asked,
-  gather-reads.Learnt,
-  last-reads.Asked,
-  last-reads.Learnt,
-  below-below t,
-  below.Post,
-  lowest-reads.Asked,
-  lowest-reads.Learnt,
-  push-reads.Asked,
-  push-reads.Learnt,
-  without-reads.Asked,
-  without-reads.Learnt,
-) (below-at t) below.Post below-Inv-loop below-μ-loop
-below-loop-again-2 t c = ?
-
--- src/batch.rt:100:5
-below-loop-less-3 : (t : ℕ) → below-lts.Need-loop-less-3 (
-  gather-reads.Asked,
-  gather-reads.Learnt,
-  last-reads.Asked,
-  last-reads.Learnt,
-  below-below t,
-  below.Post,
-  lowest-reads.Asked,
-  lowest-reads.Learnt,
-  push-reads.Asked,
-  push-reads.Learnt,
-  without-reads.Asked,
-  without-reads.Learnt,
-) (below-at t) below.Post below-Inv-loop below-μ-loop
-below-loop-less-3 t c = ?
-
--- src/batch.rt:100:5
-below-loop-again-3 : (t : ℕ) → below-lts.Need-loop-again-3 (
-  gather-reads.Asked,
-  gather-reads.Learnt,
-  last-reads.Asked,
-  last-reads.Learnt,
-  below-below t,
-  below.Post,
-  lowest-reads.Asked,
-  lowest-reads.Learnt,
-  push-reads.Asked,
-  push-reads.Learnt,
-  without-reads.Asked,
-  without-reads.Learnt,
-) (below-at t) below.Post below-Inv-loop below-μ-loop
-below-loop-again-3 t c = ?
-
--- src/batch.rt:120:17
-below-lowest-requires : (t : ℕ) → below-lts.Need-lowest-requires (
-  gather-reads.Asked,
-  gather-reads.Learnt,
-  last-reads.Asked,
-  last-reads.Learnt,
-  below-below t,
-  below.Post,
-  lowest-reads.Asked,
-  lowest-reads.Learnt,
-  push-reads.Asked,
-  push-reads.Learnt,
-  without-reads.Asked,
-  without-reads.Learnt,
-) (below-at t) below.Post below-Inv-loop below-μ-loop
-below-lowest-requires t c κs = ?
-
--- src/batch.rt:121:46
-below-add-push : (t : ℕ) → below-lts.Need-add-push (
-  gather-reads.Asked,
-  gather-reads.Learnt,
-  last-reads.Asked,
-  last-reads.Learnt,
-  below-below t,
-  below.Post,
-  lowest-reads.Asked,
-  lowest-reads.Learnt,
-  push-reads.Asked,
-  push-reads.Learnt,
-  without-reads.Asked,
-  without-reads.Learnt,
-) (below-at t) below.Post below-Inv-loop below-μ-loop
-below-add-push t c = ?
-
--- src/batch.rt:121:13
-below-push-requires : (t : ℕ) → below-lts.Need-push-requires (
-  gather-reads.Asked,
-  gather-reads.Learnt,
-  last-reads.Asked,
-  last-reads.Learnt,
-  below-below t,
-  below.Post,
-  lowest-reads.Asked,
-  lowest-reads.Learnt,
-  push-reads.Asked,
-  push-reads.Learnt,
-  without-reads.Asked,
-  without-reads.Learnt,
-) (below-at t) below.Post below-Inv-loop below-μ-loop
-below-push-requires t c κs = ?
-
--- src/batch.rt:122:13
-below-add-c : (t : ℕ) → below-lts.Need-add-c (
-  gather-reads.Asked,
-  gather-reads.Learnt,
-  last-reads.Asked,
-  last-reads.Learnt,
-  below-below t,
-  below.Post,
-  lowest-reads.Asked,
-  lowest-reads.Learnt,
-  push-reads.Asked,
-  push-reads.Learnt,
-  without-reads.Asked,
-  without-reads.Learnt,
-) (below-at t) below.Post below-Inv-loop below-μ-loop
-below-add-c t c = ?
-
--- src/batch.rt:123:13
-below-without-requires : (t : ℕ) → below-lts.Need-without-requires (
-  gather-reads.Asked,
-  gather-reads.Learnt,
-  last-reads.Asked,
-  last-reads.Learnt,
-  below-below t,
-  below.Post,
-  lowest-reads.Asked,
-  lowest-reads.Learnt,
-  push-reads.Asked,
-  push-reads.Learnt,
-  without-reads.Asked,
-  without-reads.Learnt,
-) (below-at t) below.Post below-Inv-loop below-μ-loop
-below-without-requires t c κs = ?
-
--- src/batch.rt:100:5
-below-loop-less-4 : (t : ℕ) → below-lts.Need-loop-less-4 (
-  gather-reads.Asked,
-  gather-reads.Learnt,
-  last-reads.Asked,
-  last-reads.Learnt,
-  below-below t,
-  below.Post,
-  lowest-reads.Asked,
-  lowest-reads.Learnt,
-  push-reads.Asked,
-  push-reads.Learnt,
-  without-reads.Asked,
-  without-reads.Learnt,
-) (below-at t) below.Post below-Inv-loop below-μ-loop
-below-loop-less-4 t c = ?
-
--- src/batch.rt:100:5
-below-loop-again-4 : (t : ℕ) → below-lts.Need-loop-again-4 (
-  gather-reads.Asked,
-  gather-reads.Learnt,
-  last-reads.Asked,
-  last-reads.Learnt,
-  below-below t,
-  below.Post,
-  lowest-reads.Asked,
-  lowest-reads.Learnt,
-  push-reads.Asked,
-  push-reads.Learnt,
-  without-reads.Asked,
-  without-reads.Learnt,
-) (below-at t) below.Post below-Inv-loop below-μ-loop
-below-loop-again-4 t c = ?
-
-pub +below-spec : {M : Type 1} → statement M
-+below-spec = close μ-below λ t. below-lts.spec (
+abbrev calls : ℕ → below-lts.Claims
+calls t = (
   gather-reads.Asked,
   gather-reads.Learnt,
   last-reads.Asked,
@@ -571,38 +48,200 @@ pub +below-spec : {M : Type 1} → statement M
   without-reads.Asked,
   without-reads.Learnt,
 )
-    (below-at t)
-    below.Post
-    below-Inv-loop
-    below-μ-loop
-    (below-gather-requires t)
-    (below-last-requires t)
-    (below-same-length t)
-    (below-returns t)
-    (below-loop-holds t)
-    (below-mul-if3 t)
-    (below-sub-below t)
-    (below-below-requires t)
-    (below-same-length-2 t)
-    (below-returns-2 t)
-    (below-mul-w t)
-    (below-array-read-w t)
-    (below-mul-p t)
-    (below-add-e t)
-    (below-loop-less t)
-    (below-loop-again t)
-    (below-sub-below-2 t)
-    (below-below-requires-2 t)
-    (below-same-length-3 t)
-    (below-returns-3 t)
-    (below-loop-less-2 t)
-    (below-loop-again-2 t)
-    (below-loop-less-3 t)
-    (below-loop-again-3 t)
-    (below-lowest-requires t)
-    (below-add-push t)
-    (below-push-requires t)
-    (below-add-c t)
-    (below-without-requires t)
-    (below-loop-less-4 t)
-    (below-loop-again-4 t)
+
+abbrev Inv-loop : below-lts.InvT-loop
+Inv-loop arena slots d nodes leads count skip out₀ at maps children₀ behind₀ c₀ skip₀ at₀ e₀ w₀ p₀ out children behind c skip' at' e w p =
+    (w ≡ 0) × Runs slots (d - 1) count arena nodes leads maps (allListed (nodesIn slots arena) d nodes leads count) (state skip at out₀) out children behind c skip' at' e w p
+
+abbrev μ-loop : below-lts.MeasureT-loop
+μ-loop arena slots d nodes leads count skip out₀ at maps children₀ behind₀ c₀ skip₀ at₀ e₀ w₀ p₀ out children behind c skip' at' e w p = 4 * count - e
+
+abbrev Inv-loop2 : below-lts.InvT-loop2
+Inv-loop2 arena slots d nodes leads count skip out₀ at maps children₀ behind₀ c₀ skip₀ at₀ e w₀ p out children behind c skip' at' w =
+    Runs slots (d - 1) count arena nodes leads maps (ahead slots (d - 1) count arena nodes leads maps children₀ behind₀ c₀ e w₀ p) (state skip₀ at₀ out₀) out children behind c skip' at' e w p
+
+-- a push takes a set bit and may fill the row, a flush empties the row
+abbrev μ-loop2 : below-lts.MeasureT-loop2
+μ-loop2 arena slots d nodes leads count skip out₀ at maps children₀ behind₀ c₀ skip₀ at₀ e w₀ p out children behind c skip' at' w = 2 * length (numbersIn w 0) + c / 32
+
+gather-requires : (t : ℕ) → below-lts.Need-gather-requires (calls t) (below-at t) below.Post Inv-loop2 μ-loop2 Inv-loop μ-loop
+gather-requires t c κs =
+    let R = c .before .before .before .pre .1 .0 .row in
+    (R .tries .long, (c .before .before .before .pre .1 .1, (λ i h. R .node i h .in-range, refl)))
+
+last-requires : (t : ℕ) → below-lts.Need-last-requires (calls t) (below-at t) below.Post Inv-loop2 μ-loop2 Inv-loop μ-loop
+last-requires t c κs =
+    let s = c .before .before .before .before .before .before .before in
+    (s .pre .1 .1, λ i h. subst (λ (k : ℕ). getD (s .args .leads .now) i 0 < 2 ^ (8 * (5 - k))) (c .before .before .if1 .taken) (s .pre .1 .0 .row .lead i h))
+
+same-length : (t : ℕ) → below-lts.Need-same-length (calls t) (below-at t) below.Post Inv-loop2 μ-loop2 Inv-loop μ-loop
+same-length t c = c .before .before .last .kept .1 .1 .1 .1 .0
+
+returns : (t : ℕ) → below-lts.Need-returns (calls t) (below-at t) below.Post Inv-loop2 μ-loop2 Inv-loop μ-loop
+returns t c =
+    let g = c .before .before .before .before .before .before in
+    let a = g .before .before .before .before .args in
+    c .before .before .last .ensures
+    ∙ ap (λ (xs : List ℕ). poured xs (state (a .skip) (a .at) (a .out .now)))
+    (sym (all-suffixes (a .slots) (a .arena .now) (a .nodes .now) (a .leads .now) (g .gather .last .1 .1 .1 .1 .0) (a .count) (g .gather .ensures)) ∙ ap (λ (k : ℕ). allListed (nodesIn (a .slots) (a .arena .now)) k (a .nodes .now) (a .leads .now) (a .count)) (sym (c .before .before .before .before .before .if1 .taken)))
+
+loop-holds : (t : ℕ) → below-lts.Need-loop-holds (calls t) (below-at t) below.Post Inv-loop2 μ-loop2 Inv-loop μ-loop
+loop-holds t c =
+    let s = c .before .before .before .before .before in
+    let a = s .args in
+    (refl, start (a .slots) (a .d) (a .count) (a .arena .now) (a .nodes .now) (a .leads .now) _ (state (a .skip) (a .at) (a .out .now)) _ _ (s .pre .1 .0) (c .if1 .left) (c .before .gather .ensures) refl refl)
+
+mul-loop : (t : ℕ) → below-lts.Need-mul-loop (calls t) (below-at t) below.Post Inv-loop2 μ-loop2 Inv-loop μ-loop
+mul-loop t c = omega (arith, c .before .before .before .before .before .before .pre .1 .1)
+
+mul-w : (t : ℕ) → below-lts.Need-mul-w (calls t) (below-at t) below.Post Inv-loop2 μ-loop2 Inv-loop μ-loop
+mul-w t c = omega arith
+
+array-read-w : (t : ℕ) → below-lts.Need-array-read-w (calls t) (below-at t) below.Post Inv-loop2 μ-loop2 Inv-loop μ-loop
+array-read-w t c = omega (arith, c .loop-test .taken, c .before .before .before .before .before .before .before .pre .1 .1)
+
+mul-p : (t : ℕ) → below-lts.Need-mul-p (calls t) (below-at t) below.Post Inv-loop2 μ-loop2 Inv-loop μ-loop
+mul-p t c = omega (arith, c .loop-test .taken, c .before .before .before .before .before .before .before .pre .1 .1)
+
+add-e : (t : ℕ) → below-lts.Need-add-e (calls t) (below-at t) below.Post Inv-loop2 μ-loop2 Inv-loop μ-loop
+add-e t c = omega (arith, c .loop-test .taken, c .before .before .before .before .before .before .before .pre .1 .1)
+
+loop2-holds : (t : ℕ) → below-lts.Need-loop2-holds (calls t) (below-at t) below.Post Inv-loop2 μ-loop2 Inv-loop μ-loop
+loop2-holds t c = anew (load (c .before .loop .inv .1) (c .before .loop .inv .0) (c .loop-test .taken))
+
+loop-less : (t : ℕ) → below-lts.Need-loop-less (calls t) (below-at t) below.Post Inv-loop2 μ-loop2 Inv-loop μ-loop
+loop-less t c = omega (arith, c .before .before .loop-test .taken)
+
+loop-again : (t : ℕ) → below-lts.Need-loop-again (calls t) (below-at t) below.Post Inv-loop2 μ-loop2 Inv-loop μ-loop
+loop-again t c =
+    let n = c .before in
+    let at = n .before .before in
+    (c .loop2-test .left, back (load (at .loop .inv .1) (at .loop .inv .0) (n .before .loop-test .taken)) (n .loop2 .inv))
+
+sub-below : (t : ℕ) → below-lts.Need-sub-below (calls t) (below-at t) below.Post Inv-loop2 μ-loop2 Inv-loop μ-loop
+sub-below t c = omega (arith, c .before .before .before .before .before .before .before .before .before .before .pre .1 .0 .row .some)
+
+below-requires : (t : ℕ) → below-lts.Need-below-requires (calls t) (below-at t) below.Post Inv-loop2 μ-loop2 Inv-loop μ-loop
+below-requires t c κs =
+    let n = c .before .before .before .before .before in
+    let s = n .before .before .before .before .before .before .before .before in
+    (omega (arith, s .pre .0, s .pre .1 .0 .row .some), (waiting (n .loop2 .inv), n .loop2 .inv .run .few))
+
+same-length-2 : (t : ℕ) → below-lts.Need-same-length-2 (calls t) (below-at t) below.Post Inv-loop2 μ-loop2 Inv-loop μ-loop
+same-length-2 t c =
+    let f = c .before .before .before .before in
+    let n = f .before .before .before .before .before .before in
+    f .below .kept .1 .1 .1 .1 .1 .1 .1 .0 ∙ n .loop2 .inv .run .long ∙ n .before .before .loop .inv .1 .run .long
+
+returns-2 : (t : ℕ) → below-lts.Need-returns-2 (calls t) (below-at t) below.Post Inv-loop2 μ-loop2 Inv-loop μ-loop
+returns-2 t c =
+    let f = c .before .before .before .before in
+    let n = f .before .before .before .before .before .before in
+    let at = n .before .before in
+    full (flush (back (load (at .loop .inv .1) (at .loop .inv .0) (n .before .loop-test .taken)) (n .loop2 .inv)) _ _ _ (f .below .ensures) (f .below .kept .1 .1 .1 .1 .1 .1 .1 .0)) (c .before .if3 .taken) (c .if4 .taken)
+
+loop2-less : (t : ℕ) → below-lts.Need-loop2-less (calls t) (below-at t) below.Post Inv-loop2 μ-loop2 Inv-loop μ-loop
+loop2-less t c = omega (arith, c .before .before .before .before .before .before .before .before .if2 .taken)
+
+loop2-again : (t : ℕ) → below-lts.Need-loop2-again (calls t) (below-at t) below.Post Inv-loop2 μ-loop2 Inv-loop μ-loop
+loop2-again t c =
+    let f = c .before .before .before .before in
+    flush (f .before .before .before .before .before .before .loop2 .inv) _ _ _ (f .below .ensures) (f .below .kept .1 .1 .1 .1 .1 .1 .1 .0)
+
+loop2-less-2 : (t : ℕ) → below-lts.Need-loop2-less-2 (calls t) (below-at t) below.Post Inv-loop2 μ-loop2 Inv-loop μ-loop
+loop2-less-2 t c = omega (arith, c .before .before .before .before .before .before .before .if2 .taken)
+
+loop2-again-2 : (t : ℕ) → below-lts.Need-loop2-again-2 (calls t) (below-at t) below.Post Inv-loop2 μ-loop2 Inv-loop μ-loop
+loop2-again-2 t c =
+    let f = c .before .before .before in
+    flush (f .before .before .before .before .before .before .loop2 .inv) _ _ _ (f .below .ensures) (f .below .kept .1 .1 .1 .1 .1 .1 .1 .0)
+
+lowest-requires : (t : ℕ) → below-lts.Need-lowest-requires (calls t) (below-at t) below.Post Inv-loop2 μ-loop2 Inv-loop μ-loop
+lowest-requires t c κs = c .before .loop2-test .taken
+
+add-push : (t : ℕ) → below-lts.Need-add-push (calls t) (below-at t) below.Post Inv-loop2 μ-loop2 Inv-loop μ-loop
+add-push t c = omega (arith, push-place (c .before .before .before .loop2 .inv) (c .lowest .ensures), c .before .before .before .before .before .before .before .before .before .before .before .pre .1 .1)
+
+push-requires : (t : ℕ) → below-lts.Need-push-requires (calls t) (below-at t) below.Post Inv-loop2 μ-loop2 Inv-loop μ-loop
+push-requires t c κs =
+    let n = c .before .before .before .before .before in
+    let r = n .loop2 .inv in
+    let L = c .before .before .lowest .ensures in
+    (r .whole .tries .long, (omega (arith, push-place r L, n .before .before .before .before .before .before .before .before .pre .1 .1), (push-node r L, (push-lead r L, omega (arith, r .run .few, c .before .before .before .if2 .left)))))
+
+add-c : (t : ℕ) → below-lts.Need-add-c (calls t) (below-at t) below.Post Inv-loop2 μ-loop2 Inv-loop μ-loop
+add-c t c = omega (arith, c .before .before .before .before .before .before .loop2 .inv .run .few)
+
+without-requires : (t : ℕ) → below-lts.Need-without-requires (calls t) (below-at t) below.Post Inv-loop2 μ-loop2 Inv-loop μ-loop
+without-requires t c κs = c .before .before .before .lowest .ensures .small
+
+loop2-less-3 : (t : ℕ) → below-lts.Need-loop2-less-3 (calls t) (below-at t) below.Post Inv-loop2 μ-loop2 Inv-loop μ-loop
+loop2-less-3 t c =
+    let f = c .before in
+    let n = f .before .before .before .before .before .before in
+    let T : Without (n .loop2 .w) (f .before .before .before .lowest .result) (c .without .result) =
+    record { lowest = f .before .before .before .lowest .ensures; here = c .without .ensures .0; other = c .without .ensures .1 } in
+    omega (arith, fewer T, n .loop2 .inv .run .few, f .before .before .before .before .if2 .left)
+
+loop2-again-3 : (t : ℕ) → below-lts.Need-loop2-again-3 (calls t) (below-at t) below.Post Inv-loop2 μ-loop2 Inv-loop μ-loop
+loop2-again-3 t c =
+    let f = c .before in
+    let n = f .before .before .before .before .before .before in
+    let T : Without (n .loop2 .w) (f .before .before .before .lowest .result) (c .without .result) =
+    record { lowest = f .before .before .before .lowest .ensures; here = c .without .ensures .0; other = c .without .ensures .1 } in
+    push (n .loop2 .inv) T (omega (arith, n .loop2 .inv .run .few, f .before .before .before .before .if2 .left)) _ _ (f .push .ensures .0) (f .push .ensures .1)
+
+sub-below-2 : (t : ℕ) → below-lts.Need-sub-below-2 (calls t) (below-at t) below.Post Inv-loop2 μ-loop2 Inv-loop μ-loop
+sub-below-2 t c = omega (arith, c .before .before .before .before .before .before .before .pre .1 .0 .row .some)
+
+below-requires-2 : (t : ℕ) → below-lts.Need-below-requires-2 (calls t) (below-at t) below.Post Inv-loop2 μ-loop2 Inv-loop μ-loop
+below-requires-2 t c κs =
+    let at = c .before .before .before .before in
+    let s = at .before .before .before .before .before .before in
+    (omega (arith, s .pre .0, s .pre .1 .0 .row .some), (waiting (at .loop .inv .1), at .loop .inv .1 .run .few))
+
+same-length-3 : (t : ℕ) → below-lts.Need-same-length-3 (calls t) (below-at t) below.Post Inv-loop2 μ-loop2 Inv-loop μ-loop
+same-length-3 t c =
+    let f = c .before .before in
+    f .below2 .kept .1 .1 .1 .1 .1 .1 .1 .0 ∙ f .before .before .before .before .before .loop .inv .1 .run .long
+
+returns-3 : (t : ℕ) → below-lts.Need-returns-3 (calls t) (below-at t) below.Post Inv-loop2 μ-loop2 Inv-loop μ-loop
+returns-3 t c =
+    let f = c .before .before in
+    let at = f .before .before .before .before .before in
+    done (at .loop .inv .1) _ _ _ (at .loop .inv .0) (f .before .before .before .before .loop-test .left) (f .below2 .ensures)
+
+pub +below-spec : {M : Type 1} → statement M
++below-spec = close μ-below λ t. below-lts.spec (calls t) (below-at t) below.Post Inv-loop2 μ-loop2 Inv-loop μ-loop
+    (gather-requires t)
+    (last-requires t)
+    (same-length t)
+    (returns t)
+    (loop-holds t)
+    (mul-loop t)
+    (mul-w t)
+    (array-read-w t)
+    (mul-p t)
+    (add-e t)
+    (loop2-holds t)
+    (loop-less t)
+    (loop-again t)
+    (sub-below t)
+    (below-requires t)
+    (same-length-2 t)
+    (returns-2 t)
+    (loop2-less t)
+    (loop2-again t)
+    (loop2-less-2 t)
+    (loop2-again-2 t)
+    (lowest-requires t)
+    (add-push t)
+    (push-requires t)
+    (add-c t)
+    (without-requires t)
+    (loop2-less-3 t)
+    (loop2-again-3 t)
+    (sub-below-2 t)
+    (below-requires-2 t)
+    (same-length-3 t)
+    (returns-3 t)

@@ -7,87 +7,64 @@ use Rattle.trie_walk.proofs.Copies.{four-stores}
 use borrow.Author.Needs.{needs}
 use Rattle.trie_walk.proofs.batch.copy.Statement.{statement}
 use Rattle.trie_walk.proofs.batch.copy.Tie as tie
-use Rattle.trie_walk.proofs.batch.copy.Reads as reads
-use Rattle.trie_walk.proofs.batch.copy.Lts as lts
-use Rattle.arena.proofs.read.word.Reads as word-reads
 
--- src/batch.rt:23:19
 word-requires : tie.Need-word-requires
 word-requires c κs = search needs
 
--- src/batch.rt:23:10
 mul-maps : tie.Need-mul-maps
 mul-maps c = search needs
 
--- src/batch.rt:23:5
 mul-maps-2 : tie.Need-mul-maps-2
 mul-maps-2 c = search needs
 
--- src/batch.rt:23:5
 element-write-maps : tie.Need-element-write-maps
 element-write-maps c = search needs
 
--- src/batch.rt:24:23
 word-requires-2 : tie.Need-word-requires-2
 word-requires-2 c κs = search needs
 
--- src/batch.rt:24:10
 mul-maps-3 : tie.Need-mul-maps-3
 mul-maps-3 c = search needs
 
--- src/batch.rt:24:10
 add-maps : tie.Need-add-maps
 add-maps c = search needs
 
--- src/batch.rt:24:5
 mul-maps-4 : tie.Need-mul-maps-4
 mul-maps-4 c = search needs
 
--- src/batch.rt:24:5
 element-write-maps-2 : tie.Need-element-write-maps-2
 element-write-maps-2 c = search needs
 
--- src/batch.rt:25:23
 word-requires-3 : tie.Need-word-requires-3
 word-requires-3 c κs = search needs
 
--- src/batch.rt:25:10
 mul-maps-5 : tie.Need-mul-maps-5
 mul-maps-5 c = search needs
 
--- src/batch.rt:25:10
 add-maps-2 : tie.Need-add-maps-2
 add-maps-2 c = search needs
 
--- src/batch.rt:25:5
 mul-maps-6 : tie.Need-mul-maps-6
 mul-maps-6 c = search needs
 
--- src/batch.rt:25:5
 element-write-maps-3 : tie.Need-element-write-maps-3
 element-write-maps-3 c = search needs
 
--- src/batch.rt:26:23
 word-requires-4 : tie.Need-word-requires-4
 word-requires-4 c κs = search needs
 
--- src/batch.rt:26:10
 mul-maps-7 : tie.Need-mul-maps-7
 mul-maps-7 c = search needs
 
--- src/batch.rt:26:10
 add-maps-3 : tie.Need-add-maps-3
 add-maps-3 c = search needs
 
--- src/batch.rt:26:5
 mul-maps-8 : tie.Need-mul-maps-8
 mul-maps-8 c = search needs
 
--- src/batch.rt:26:5
 element-write-maps-4 : tie.Need-element-write-maps-4
 element-write-maps-4 c = search needs
 
--- src/batch.rt:17:1
 returns : tie.Need-returns
 returns c =
     let a = c .before .before .before .before .before .args in

@@ -8,9 +8,6 @@ use Rattle.region.specs.Nodes.{nodeWord}
 use Rattle.trie_walk.proofs.Copies.{one-more}
 use Rattle.trie_walk.proofs.batch.gather.Statement.{statement}
 use Rattle.trie_walk.proofs.batch.gather.Tie as tie
-use Rattle.trie_walk.proofs.batch.gather.Reads as reads
-use Rattle.trie_walk.proofs.batch.gather.Lts as lts
-use Rattle.trie_walk.proofs.batch.copy.Reads as copy-reads
 
 abbrev Inv-loop : tie.InvT-loop
 Inv-loop arena slots nodes count maps₀ i₀ maps i =
@@ -19,38 +16,30 @@ Inv-loop arena slots nodes count maps₀ i₀ maps i =
 abbrev μ-loop : tie.MeasureT-loop
 μ-loop arena slots nodes count maps₀ i₀ maps i = count - i
 
--- src/batch.rt:37:5
 loop-holds : tie.Need-loop-holds Inv-loop μ-loop
 loop-holds c = (omega arith, c .before .pre .1 .1 .1, λ e h. absurd (omega arith))
 
--- src/batch.rt:38:28
 mul-copy : tie.Need-mul-copy Inv-loop μ-loop
 mul-copy c = search needs
 
--- src/batch.rt:38:28
 element-copy-out-copy : tie.Need-element-copy-out-copy Inv-loop μ-loop
 element-copy-out-copy c = search needs
 
--- src/batch.rt:38:9
 copy-requires : tie.Need-copy-requires Inv-loop μ-loop
 copy-requires c κs = (c .before .before .before .before .before .pre .0, (c .before .before .before .before .before .pre .1 .1 .0 (c .before .before .before .loop .i) (c .before .before .loop-test .taken), (omega arith, c .before .before .before .loop .inv .1)))
 
--- src/batch.rt:39:9
 add-i : tie.Need-add-i Inv-loop μ-loop
 add-i c = search needs
 
--- src/batch.rt:37:5
 loop-less : tie.Need-loop-less Inv-loop μ-loop
 loop-less c = search needs
 
--- src/batch.rt:37:5
 loop-again : tie.Need-loop-again Inv-loop μ-loop
 loop-again c =
     let at = c .before .before .before .before in
     let a = at .before .before .args in
     (omega arith, c .copy .ensures .long ∙ at .loop .inv .1, one-more (λ i. nodeWord (drop (a .slots) (a .arena .now)) (getD (a .nodes .now) i 0)) (at .loop .maps) _ (at .loop .i) (at .loop .inv .2) (c .copy .ensures))
 
--- src/batch.rt:30:1
 returns : tie.Need-returns Inv-loop μ-loop
 returns c = λ e h. c .before .loop .inv .2 e (omega arith)
 

@@ -1,90 +1,92 @@
--- The words from e on are poured as all were; each turn pours word e. Assumes nothing.
+-- The words from e on are poured as all were; each turn pours word e, or passes it where it has no bit. Assumes nothing.
 use mathlib.Core.Path.{_≡_, refl, sym, ap, _∙_}
 use mathlib.Core.List.{[], _∷_}
-use Prim.Native.Nat.{ℕ, _+_, _-_, _*_, _/_, _%_, _≤_, _<_}
+use Prim.Native.Nat.{_+_, _-_, _*_, _/_, _%_, _≤_}
 use native.Mathlib.Omega.{arith}
 use borrow.Author.Needs.{needs}
 use lib.ListN.{length, getD}
 use Rattle.trie_walk.specs.Pour.{state, poured}
-use Rattle.trie_walk.specs.Words.{behindAll, suffixes}
+use Rattle.trie_walk.specs.Words.{suffixes}
 use Rattle.trie_walk.proofs.Pours.{poured-none}
-use Rattle.trie_walk.proofs.Numbers.{start-words, no-words, next-suffixes}
+use Rattle.trie_walk.proofs.Numbers.{suffixesFrom, start-words, no-words, empty-word, next-suffixes}
 use Rattle.trie_walk.proofs.words.last.Statement.{statement}
 use Rattle.trie_walk.proofs.words.last.Tie as tie
-use Rattle.trie_walk.proofs.words.last.Reads as reads
-use Rattle.trie_walk.proofs.words.last.Lts as lts
-use Rattle.trie_walk.proofs.words.pour.Reads as pour-reads
 
 abbrev Inv-loop : tie.InvT-loop
 Inv-loop maps leads count skip out₀ at skip₀ at₀ e₀ out skip' at' e =
-    (e ≤ 4 * count) × (length out ≡ length out₀)
-    × (poured (behindAll (λ j. getD maps j 0) (λ x. (getD leads (x / 256) 0 * 256 + x % 256) ∷ []) e (4 * count - e)) (state skip' at' out) ≡ poured (suffixes maps leads count) (state skip at out₀))
+    (e ≤ 4 * count) × (length out ≡ length out₀) × (poured (suffixesFrom maps leads (4 * count) e) (state skip' at' out) ≡ poured (suffixes maps leads count) (state skip at out₀))
 
 abbrev μ-loop : tie.MeasureT-loop
 μ-loop maps leads count skip out₀ at skip₀ at₀ e₀ out skip' at' e = 4 * count - e
 
--- src/words.rt:79:5
 loop-holds : tie.Need-loop-holds Inv-loop μ-loop
-loop-holds c = let a = c .before .args in (omega arith, refl, ap (λ xs. poured xs (state (a .skip) (a .at) (a .out .now))) (start-words (λ j. getD (a .maps .now) j 0) (λ x. (getD (a .leads .now) (x / 256) 0 * 256 + x % 256) ∷ []) (4 * a .count)))
+loop-holds c =
+    let a = c .before .args in
+    (omega arith, refl, ap (λ xs. poured xs (state (a .skip) (a .at) (a .out .now))) (start-words (λ j. getD (a .maps .now) j 0) (λ x. (getD (a .leads .now) (x / 256) 0 * 256 + x % 256) ∷ []) (4 * a .count)))
 
--- src/words.rt:79:15
 mul-loop : tie.Need-mul-loop Inv-loop μ-loop
 mul-loop c = search needs
 
--- src/words.rt:80:22
-mul-pour : tie.Need-mul-pour Inv-loop μ-loop
-mul-pour c = search needs
+mul-w : tie.Need-mul-w Inv-loop μ-loop
+mul-w c = search needs
 
--- src/words.rt:80:22
-element-copy-out-pour : tie.Need-element-copy-out-pour Inv-loop μ-loop
-element-copy-out-pour c = search needs
+element-copy-out-w : tie.Need-element-copy-out-w Inv-loop μ-loop
+element-copy-out-w c = search needs
 
--- src/words.rt:80:31
-mul-pour-2 : tie.Need-mul-pour-2 Inv-loop μ-loop
-mul-pour-2 c = search needs
-
--- src/words.rt:80:31
-element-copy-out-pour-2 : tie.Need-element-copy-out-pour-2 Inv-loop μ-loop
-element-copy-out-pour-2 c = search needs
-
--- src/words.rt:80:31
-mul-pour-3 : tie.Need-mul-pour-3 Inv-loop μ-loop
-mul-pour-3 c = omega (arith, c .before .before .before .before .before .pre .1 (c .before .before .before .loop .e / 4) (omega arith))
-
--- src/words.rt:80:52
-mul-pour-4 : tie.Need-mul-pour-4 Inv-loop μ-loop
-mul-pour-4 c = search needs
-
--- src/words.rt:80:31
-add-pour : tie.Need-add-pour Inv-loop μ-loop
-add-pour c = omega (arith, c .before .before .before .before .before .pre .1 (c .before .before .before .loop .e / 4) (omega arith))
-
--- src/words.rt:80:13
-pour-requires : tie.Need-pour-requires Inv-loop μ-loop
-pour-requires c κs = omega (arith, c .before .before .before .before .before .before .pre .1 (c .before .before .before .before .loop .e / 4) (omega arith))
-
--- src/words.rt:83:9
 add-e : tie.Need-add-e Inv-loop μ-loop
 add-e c = search needs
 
--- src/words.rt:79:5
 loop-less : tie.Need-loop-less Inv-loop μ-loop
 loop-less c = search needs
 
--- src/words.rt:79:5
 loop-again : tie.Need-loop-again Inv-loop μ-loop
 loop-again c =
-    let at = c .before .before .before .before .before .before .before in
-    let a = at .before .before .args in
-    (omega arith, c .before .before .pour .kept .1 .1 .1 .0 ∙ at .loop .inv .1,
-    ap (poured (behindAll (λ j. getD (a .maps .now) j 0) (λ x. (getD (a .leads .now) (x / 256) 0 * 256 + x % 256) ∷ []) (at .loop .e + 1) (4 * a .count - (at .loop .e + 1)))) (c .before .before .pour .ensures)
-    ∙ sym (next-suffixes (a .maps .now) (a .leads .now) (at .loop .e) (4 * a .count) (at .loop .skip) (at .loop .at) (at .loop .out) (c .before .before .before .before .before .before .loop-test .taken)) ∙ at .loop .inv .2)
+    let at = c .before .before .before in
+    let a = at .before .before .args in (
+      omega arith,
+      at .loop .inv .1,
+      ap (λ xs. poured xs (state (at .loop .skip) (at .loop .at) (at .loop .out)))
+          (sym (empty-word (λ j. getD (a .maps .now) j 0) (λ x. (getD (a .leads .now) (x / 256) 0 * 256 + x % 256) ∷ []) (at .loop .e) (4 * a .count) (c .before .before .loop-test .taken) (c .if1 .taken)))
+          ∙ at .loop .inv .2,
+    )
 
--- src/words.rt:64:1
+mul-pour : tie.Need-mul-pour Inv-loop μ-loop
+mul-pour c = search needs
+
+element-copy-out-pour : tie.Need-element-copy-out-pour Inv-loop μ-loop
+element-copy-out-pour c = search needs
+
+mul-pour-2 : tie.Need-mul-pour-2 Inv-loop μ-loop
+mul-pour-2 c = omega (arith, c .before .before .before .before .before .before .pre .1 (c .before .before .before .before .loop .e / 4) (omega arith))
+
+mul-pour-3 : tie.Need-mul-pour-3 Inv-loop μ-loop
+mul-pour-3 c = omega (arith, c .before .before .before .before .before .before .pre .1 (c .before .before .before .before .loop .e / 4) (omega arith))
+
+add-pour : tie.Need-add-pour Inv-loop μ-loop
+add-pour c = omega (arith, c .before .before .before .before .before .before .pre .1 (c .before .before .before .before .loop .e / 4) (omega arith))
+
+pour-requires : tie.Need-pour-requires Inv-loop μ-loop
+pour-requires c κs = omega (arith, c .before .before .before .before .before .before .before .pre .1 (c .before .before .before .before .before .loop .e / 4) (omega arith))
+
+add-e-2 : tie.Need-add-e-2 Inv-loop μ-loop
+add-e-2 c = search needs
+
+loop-less-2 : tie.Need-loop-less-2 Inv-loop μ-loop
+loop-less-2 c = search needs
+
+loop-again-2 : tie.Need-loop-again-2 Inv-loop μ-loop
+loop-again-2 c =
+    let at = c .before .before .before .before .before .before .before .before in
+    let a = at .before .before .args in (
+      omega arith,
+      c .before .before .pour .kept .1 .1 .1 .0 ∙ at .loop .inv .1,
+      ap (poured (suffixesFrom (a .maps .now) (a .leads .now) (4 * a .count) (at .loop .e + 1))) (c .before .before .pour .ensures)
+          ∙ sym (next-suffixes (a .maps .now) (a .leads .now) (at .loop .e) (4 * a .count) (at .loop .skip) (at .loop .at) (at .loop .out) (c .before .before .before .before .before .before .before .loop-test .taken)) ∙ at .loop .inv .2,
+    )
+
 same-length : tie.Need-same-length Inv-loop μ-loop
 same-length c = c .before .loop .inv .1
 
--- src/words.rt:64:1
 returns : tie.Need-returns Inv-loop μ-loop
 returns c =
     let at = c .before in
@@ -99,16 +101,19 @@ last-spec =
     μ-loop
     loop-holds
     mul-loop
-    mul-pour
-    element-copy-out-pour
-    mul-pour-2
-    element-copy-out-pour-2
-    mul-pour-3
-    mul-pour-4
-    add-pour
-    pour-requires
+    mul-w
+    element-copy-out-w
     add-e
     loop-less
     loop-again
+    mul-pour
+    element-copy-out-pour
+    mul-pour-2
+    mul-pour-3
+    add-pour
+    pour-requires
+    add-e-2
+    loop-less-2
+    loop-again-2
     same-length
     returns)

@@ -1,7 +1,6 @@
 -- Each turn drops the lowest number, of the word and of its list. Assumes nothing.
 use mathlib.Core.Path.{_≡_, refl, sym, ap, _∙_}
 use Prim.Native.Nat.{ℕ}
-use native.Mathlib.Omega.{arith}
 use borrow.Author.Needs.{needs}
 use lib.ListN.{drop}
 use Rattle.trie_walk.specs.Words.{numbersIn}

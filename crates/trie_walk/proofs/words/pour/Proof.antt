@@ -9,50 +9,36 @@ use Rattle.trie_walk.proofs.Numbers.{pass-all, pass-some}
 use borrow.Author.Needs.{needs}
 use Rattle.trie_walk.proofs.words.pour.Statement.{statement}
 use Rattle.trie_walk.proofs.words.pour.Tie as tie
-use Rattle.trie_walk.proofs.words.pour.Reads as reads
-use Rattle.trie_walk.proofs.words.pour.Lts as lts
-use Rattle.bitvector.proofs.word.count.Reads as count-reads
-use Rattle.trie_walk.proofs.words.past.Reads as past-reads
-use Rattle.trie_walk.proofs.words.write.Reads as write-reads
 
--- src/words.rt:52:13
 write-requires : tie.Need-write-requires
 write-requires c κs = search needs
 
--- src/words.rt:53:9
 same-length : tie.Need-same-length
 same-length c = search needs
 
--- src/words.rt:53:9
 returns : tie.Need-returns
 returns c =
     let a = c .before .before .before .before .before .before .args in
     c .before .before .write .ensures ∙ ap (λ (s : ℕ). poured (numbersIn (a .w) (a .base)) (state s (a .at) (a .out .now))) (sym (c .before .before .before .before .if1 .taken))
 
--- src/words.rt:55:9
 count-requires : tie.Need-count-requires
 count-requires c κs = search needs
 
--- src/words.rt:57:9
 returns-2 : tie.Need-returns-2
 returns-2 c =
     let a = c .before .before .before .before .args in
     let n : ones (a .w) ≡ c .before .count .result = sym (c .before .count .ensures .0) in
     sym (pass-all (a .w) (a .base) (a .skip) (a .at) (a .out .now) (c .before .before .before .before .fits .w .fits) (omega arith) ∙ ap (λ (x : ℕ). state (a .skip - x) (a .at) (a .out .now)) n)
 
--- src/words.rt:59:21
 past-requires : tie.Need-past-requires
 past-requires c κs = search needs
 
--- src/words.rt:59:9
 write-requires-2 : tie.Need-write-requires-2
 write-requires-2 c κs = search needs
 
--- src/words.rt:47:1
 same-length-2 : tie.Need-same-length-2
 same-length-2 c = search needs
 
--- src/words.rt:47:1
 returns-3 : tie.Need-returns-3
 returns-3 c =
     let s = c .before .before .before .before .before .before .before .before .before in
