@@ -13,7 +13,7 @@ use Rattle.region.specs.WellFormed.{StackedNode, SpareNode, nodesUsed}
 use Rattle.arena.specs.Arena.{Arena, nodesIn, spareIn}
 use Rattle.arena_check.specs.Checks.{NodeOk, belowRoot, branches}
 use Rattle.arena_check.proofs.Maps.{bits-of}
-use Rattle.arena_check.proofs.Matching.{Lands, Met, all-met, sum-ones}
+use Rattle.lists.proofs.Matching.{Lands, Met, all-met, sum-ones}
 use Rattle.arena_check.proofs.Down.{children, balanced}
 
 module _ (v : Nodes) (spare : ℕ → ℕ) (N used : ℕ) (small : used ≤ N) (count : nodesUsed v N ≡ used)

@@ -12,7 +12,7 @@ use Rattle.region.specs.Nodes.{Nodes}
 use Rattle.region.specs.WellFormed.{Child, Children}
 use Rattle.region.specs.Linked.{Above}
 use Rattle.arena_check.specs.Checks.{belowRoot, inner, branches}
-use Rattle.arena_check.proofs.Matching.{Lands, Met, at-most, all-met, sum-rows}
+use Rattle.lists.proofs.Matching.{Lands, Met, at-most, all-met, sum-rows}
 
 module _ (v : Nodes) (N b : ℕ) (bits : (n x : ℕ) → v .bit n x < 2) where
   -- bit x of node n, if it wants a child

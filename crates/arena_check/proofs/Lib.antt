@@ -1,5 +1,3 @@
-pub mod Answers
-pub mod Matching
 pub mod Down
 pub mod Maps
 pub mod Both

@@ -16,7 +16,7 @@ use Rattle.region.specs.Nodes.{Nodes}
 use Rattle.region.specs.WellFormed.{NonEmpty}
 use Rattle.arena.specs.Arena.{nodesIn}
 use Rattle.arena_check.specs.Checks.{setBits}
-use Rattle.arena_check.proofs.Answers.{Tells, refused, granted}
+use Rattle.lists.proofs.Answers.{Tells, refused, granted}
 
 pub bits-of : (N : ℕ) (l : List ℕ) (n x : ℕ) → nodesIn N l .bit n x < 2
 bits-of N l n x = omega arith

@@ -14,7 +14,7 @@ use Rattle.region.specs.Nodes.{Nodes}
 use Rattle.region.specs.WellFormed.{nodesUsed}
 use Rattle.arena.specs.Arena.{Arena, nodesIn, spareIn}
 use Rattle.arena_check.specs.Checks.{NodeOk, belowRoot, inner, branches}
-use Rattle.arena_check.proofs.Matching.{sum-step}
+use Rattle.lists.proofs.Matching.{sum-step}
 use Rattle.arena_check.proofs.Maps.{set-few}
 use Rattle.arena_check.proofs.Both.{arena-of, even-of}
 

@@ -65,7 +65,7 @@ pub popped : (ws : List ℕ) (q k w′ : ℕ) → length ws ≡ 4 → q < 4 → 
 popped ws q k w′ len h z L g f = (
   least-in ws q k (omega arith) z L,
   made-four ws _ _ _ _ (q * 64 + k) 0 len (omega (arith, L .small))
-  (cleared-in ws q 0 k w′ (L .small) g f) (cleared-in ws q 1 k w′ (L .small) g f) (cleared-in ws q 2 k w′ (L .small) g f) (cleared-in ws q 3 k w′ (L .small) g f),
+      (cleared-in ws q 0 k w′ (L .small) g f) (cleared-in ws q 1 k w′ (L .small) g f) (cleared-in ws q 2 k w′ (L .small) g f) (cleared-in ws q 3 k w′ (L .small) g f),
 )
 
 -- four words that are 0 have no bit set

@@ -3,9 +3,9 @@ ghost use mathlib.Core.Path.{_≡_};
 ghost use lib.Dec.{eqb};
 ghost use Rattle.region.specs.Bits.{bit};
 ghost use Rattle.bitvector.specs.Maps.{Made};
+use super::tiny::TinyBitvector;
 use super::tiny::insert_in;
 use super::tiny::remove_in;
-use super::tiny::TinyBitvector;
 
 // Puts x into the map, and says whether it was absent.
 pub fn insert(map: &mut TinyBitvector, x: u8) -> bool

@@ -23,7 +23,7 @@ use Rattle.region.specs.Read.{suffixes, container, read}
 use Rattle.region.specs.WellFormed.{rankOf, Placed}
 use Rattle.region.proofs.Containers.{at-rank, rank-lt}
 use Rattle.inspect_slots.specs.Slots.{stored}
-use Rattle.inspect_slots.proofs.Matching.{sum-step}
+use Rattle.lists.proofs.Matching.{sum-step}
 
 module _ (v : Seen) (c : ℕ) where
   stored-free : v .kind c ≡ 0 → stored v c ≡ 0

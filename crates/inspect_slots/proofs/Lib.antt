@@ -1,6 +1,5 @@
-pub mod Answers
 pub mod Offsets
-pub mod Matching
+pub mod Scanning
 pub mod Placing
 pub mod Stacking
 pub mod Lengths

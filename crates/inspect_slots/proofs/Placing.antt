@@ -1,82 +1,109 @@
 -- `Placed` as the code finds it: from set bit to set bit, then record by record; that every record in use is ranked follows by counting. Assumes nothing.
-use Prim.Native.Nat.{ℕ, _+_, _^_, _<_, _≤_, min}
+use Prim.Native.Nat.{ℕ, _+_, _*_, _^_, _<_, _≤_, min}
 use mathlib.Core.Path.{_≡_, refl, sym, ap, _∙_, subst}
 use mathlib.Core.Logic.{_≢_}
 use mathlib.Core.List.{List, []}
 use native.Mathlib.Omega.{arith}
 use native.Mathlib.Decide.{decLt}
 use native.Mathlib.Numerals.{add-one}
-use lib.Dec.{eqb}
-use lib.ListN.{length}
+use lib.ListN.{length, getD}
 use lib.Pow.{pow-mono}
 use borrow.Author.Count.{below-more}
-use borrow.Author.Tests.{eqb-true, eqb-false}
 use Rattle.lists.specs.Sums.{sum}
 use Rattle.region.specs.Geometry.{bitmapWords}
-use Rattle.region.specs.Bits.{bit, rank}
+use Rattle.region.specs.Bits.{wordBit, bit, rank}
 use Rattle.region.specs.Areas.{Numbers}
 use Rattle.region.specs.Seen.{Seen}
 use Rattle.region.specs.WellFormed.{rankOf, Bears, Ranked, Placed}
 use Rattle.region.proofs.Containers.{rank-small, slots-in-use, k-fits}
-use Rattle.bitvector.specs.Maps.{Least}
+use Rattle.bitvector.specs.Maps.{Lowest, Least}
 use Rattle.bitvector.proofs.RankLaws.{bit-small, rank-zero, rank-clear, rank-next}
 use Rattle.inspect_slots.specs.Slots.{slotNumbers, slotSeen, kindIn, BorneAt, AllBorne, InUse}
-use Rattle.inspect_slots.proofs.Answers.{Tells, told}
-use Rattle.inspect_slots.proofs.Matching.{Lands, Met, all-met, sum-step}
+use Rattle.inspect_slots.proofs.Scanning.{Scan, scan-start, scan-word, scan-end, scan-found, scan-taken}
+use Rattle.lists.proofs.Matching.{Lands, Met, all-met, sum-step}
 
 -- 2^P/64 words, at least 1
 pub bitmap-small : (P : ℕ) → P ≤ 24 → bitmapWords P ≤ 262144
 unfolding bitmapWords
 bitmap-small P h = let m : 2 ^ P ≤ 2 ^ 24 = pow-mono h in omega arith
 
--- The set bits below `from` are passed: n of them, each borne
+pub bitmap-some : (P : ℕ) → 0 < bitmapWords P
+unfolding bitmapWords
+bitmap-some P = omega arith
 
-pub record Sofar (C k : ℕ) (bm rk rec : List ℕ) (from n : ℕ) : Type 0 where
+-- Word j is looked at, and `left` is left of it: n set bits before `from` are passed, each borne
+
+pub record Looking (P C k : ℕ) (bm rk rec : List ℕ) (j left n : ℕ) : Type 0 where
+  pub from : ℕ
+  pub inside : from ≤ 2 ^ P
+  pub scan : Scan bm from j left
   pub count : n ≡ rank bm from
   pub few : n ≤ k
   pub borne : (q : ℕ) → q < from → bit bm q ≡ 1 → BorneAt C k rk rec q (rank bm q)
 
-module _ (C k : ℕ) (bm rk rec : List ℕ) where
-  pub sofar-start : Sofar C k bm rk rec 0 0
-  sofar-start = record { count = sym (rank-zero bm); few = omega arith; borne = λ q l e. absurd (omega arith) }
+pub look-start : (P C k : ℕ) (bm rk rec : List ℕ) → length bm ≡ bitmapWords P → Looking P C k bm rk rec 0 (getD bm 0 0) 0
+look-start P C k bm rk rec e = record {
+  from = 0;
+  inside = omega arith;
+  scan = scan-start bm (omega (arith, bitmap-some P));
+  count = sym (rank-zero bm);
+  few = omega arith;
+  borne = λ q l. absurd (omega arith);
+}
 
-  module _ {from n : ℕ} (s : Sofar C k bm rk rec from n) where
-    -- the next set bit is of rank n
-    rank-here : {i : ℕ} → Least bm from i → rank bm i ≡ n
-    rank-here {i} L = rank-clear bm from i (L .past) (L .none) ∙ sym (s .count)
+module _ {P C k : ℕ} {bm rk rec : List ℕ} {j left n : ℕ} (L : Looking P C k bm rk rec j left n) where
+  -- nothing is left of the word: on to the next, or the count decides
+  module _ (e : left ≡ 0) where
+    pub look-word : j + 1 < length bm → Looking P C k bm rk rec (j + 1) (getD bm (j + 1) 0) n
+    look-word h = record { from = L .from; inside = L .inside; scan = scan-word (L .scan) e h; count = L .count; few = L .few; borne = L .borne }
 
-    pub sofar-next : {i : ℕ} → Least bm from i → BorneAt C k rk rec i n → Sofar C k bm rk rec (i + 1) (n + 1)
-    sofar-next {i} L b = record {
-      count = omega (arith, rank-next bm from i (L .past) (L .is-set) (L .none), s .count);
-      few = omega (arith, b .in-table);
-      borne = below-more _ _ (λ q l. passed q l (decLt q from)) (λ e. subst (BorneAt C k rk rec i) (sym (rank-here L)) b);
+    module _ (last : length bm ≤ j + 1) where
+      clear : (q : ℕ) → L .from ≤ q → bit bm q ≡ 0
+      clear = scan-end (L .scan) e last
+
+      whole : rank bm (2 ^ P) ≡ n
+      whole = rank-clear bm (L .from) (2 ^ P) (L .inside) (λ q l u. clear q l) ∙ sym (L .count)
+
+      passed : (p : ℕ) → Dec (p < L .from) → bit bm p ≡ 1 → BorneAt C k rk rec p (rank bm p)
+      passed p (yes l) b = L .borne p l b
+      passed p (no l) b = absurd (omega (arith, clear p (omega arith)))
+
+      pub look-yes : n ≡ k → AllBorne P C k bm rk rec
+      look-yes q = record { past = λ p l u. clear p (omega (arith, L .inside)); prefixes = whole ∙ q; borne = λ p l. passed p (decLt p (L .from)) }
+
+      pub look-no : (n ≡ k → ⊥) → AllBorne P C k bm rk rec → ⊥
+      look-no h a = h (sym whole ∙ a .prefixes)
+
+  -- something is left: its lowest bit is the next prefix, and its rank is n
+  module _ (b : ℕ) (low : Lowest left b) where
+    abbrev i : ℕ
+    i = j * 64 + b
+
+    next : Least bm (L .from) i
+    next = scan-found (L .scan) b low
+
+    rank-here : rank bm i ≡ n
+    rank-here = rank-clear bm (L .from) i (next .past) (next .none) ∙ sym (L .count)
+
+    pub look-past : length bm ≡ bitmapWords P → 2 ^ P ≤ i → AllBorne P C k bm rk rec → ⊥
+    look-past long h a = omega (arith, a .past i h (omega (arith, next .inside)), next .is-set)
+
+    pub look-not : i < 2 ^ P → (BorneAt C k rk rec i n → ⊥) → AllBorne P C k bm rk rec → ⊥
+    look-not h no-one a = no-one (subst (BorneAt C k rk rec i) rank-here (a .borne i h (next .is-set)))
+
+    pub look-taken : (rest : ℕ) → i < 2 ^ P → BorneAt C k rk rec i n → wordBit rest b ≡ 0 → ((a : ℕ) → a ≢ b → wordBit rest a ≡ wordBit left a) → Looking P C k bm rk rec j rest (n + 1)
+    look-taken rest h one here other = record {
+      from = i + 1;
+      inside = omega arith;
+      scan = scan-taken (L .scan) b low rest here other;
+      count = omega (arith, rank-next bm (L .from) i (next .past) (next .is-set) (next .none), L .count);
+      few = omega (arith, one .in-table);
+      borne = below-more _ _ (λ q l. passed q l (decLt q (L .from))) (λ e. subst (BorneAt C k rk rec i) (sym rank-here) one);
     }
       where
-        passed : (q : ℕ) → q < i → Dec (q < from) → bit bm q ≡ 1 → BorneAt C k rk rec q (rank bm q)
-        passed q l (yes h) e = s .borne q h e
-        passed q l (no h) e = absurd (omega (arith, L .none q (omega arith) l))
-
-    module _ (P : ℕ) where
-      -- a bit past the prefixes
-      pub bit-past : {i : ℕ} → length bm ≡ bitmapWords P → Least bm from i → 2 ^ P ≤ i → AllBorne P C k bm rk rec → ⊥
-      bit-past {i} long L h a = omega (arith, a .past i h (omega (arith, L .inside)), L .is-set)
-
-      -- a prefix that is not borne
-      pub not-borne : {i : ℕ} → Least bm from i → i < 2 ^ P → (BorneAt C k rk rec i n → ⊥) → AllBorne P C k bm rk rec → ⊥
-      not-borne {i} L h no-one a = no-one (subst (BorneAt C k rk rec i) (rank-here L) (a .borne i h (L .is-set)))
-
-      -- no further bit: the count decides
-      pub all-passed : from ≤ 2 ^ P → ((j : ℕ) → from ≤ j → bit bm j ≡ 0) → Tells (eqb n k) (AllBorne P C k bm rk rec)
-      all-passed h z = told (eqb n k) (eqb-true n k, eqb-false n k)
-          (λ e. record { past = λ p l u. z p (omega arith); prefixes = whole ∙ e; borne = λ p l. passed p (decLt p from) })
-          (λ a. sym whole ∙ a .prefixes)
-        where
-          whole : rank bm (2 ^ P) ≡ n
-          whole = rank-clear bm from (2 ^ P) h (λ j l u. z j l) ∙ sym (s .count)
-
-          passed : (p : ℕ) → Dec (p < from) → bit bm p ≡ 1 → BorneAt C k rk rec p (rank bm p)
-          passed p (yes l) e = s .borne p l e
-          passed p (no l) e = absurd (omega (arith, z p (omega arith)))
+        passed : (q : ℕ) → q < i → Dec (q < L .from) → bit bm q ≡ 1 → BorneAt C k rk rec q (rank bm q)
+        passed q l (yes h) e = L .borne q h e
+        passed q l (no h) e = absurd (omega (arith, next .none q (omega arith) l))
 
 -- The slots below c are passed: n of them in use
 
@@ -98,13 +125,15 @@ module _ (rec : List ℕ) where
       kinds = below-more _ _ (u .kinds) h;
     }
 
-    pub used-end : (C k : ℕ) → c ≡ C → Tells (eqb n k) (InUse C k rec)
-    used-end C k e = told (eqb n k) (eqb-true n k, eqb-false n k)
-        (λ q. record { kinds = λ d l. u .kinds d (omega arith); count = sym all ∙ q })
-        (λ i. all ∙ i .count)
-      where
-        all : n ≡ sum (λ d. min 1 (kindIn rec d)) C
-        all = u .count ∙ ap (sum (λ d. min 1 (kindIn rec d))) e
+    module _ (C k : ℕ) (e : c ≡ C) where
+      all : n ≡ sum (λ d. min 1 (kindIn rec d)) C
+      all = u .count ∙ ap (sum (λ d. min 1 (kindIn rec d))) e
+
+      pub used-yes : n ≡ k → InUse C k rec
+      used-yes q = record { kinds = λ d l. u .kinds d (omega arith); count = sym all ∙ q }
+
+      pub used-no : (n ≡ k → ⊥) → InUse C k rec → ⊥
+      used-no h i = h (all ∙ i .count)
 
 -- The parts together, and each from the whole
 
@@ -130,7 +159,7 @@ module _ (P C k : ℕ) (bm rk rec : List ℕ) where
   unfolding rank
   ranked a i c h ne =
       let m : Met (v .bit) (λ q. v .slot (rankOf g v q)) (v .prefix) (2 ^ P) c =
-          all-met (v .bit) (λ c. min 1 (v .kind c)) (λ q. v .slot (rankOf g v q)) (v .prefix) (2 ^ P) C (bit-small bm) (lands a) (a .prefixes ∙ sym (i .count)) c h (omega arith) in
+      all-met (v .bit) (λ c. min 1 (v .kind c)) (λ q. v .slot (rankOf g v q)) (v .prefix) (2 ^ P) C (bit-small bm) (lands a) (a .prefixes ∙ sym (i .count)) c h (omega arith) in
       record { in-range = m .small; is-set = m .marked; there = m .there }
 
   pub placed-of : AllBorne P C k bm rk rec → InUse C k rec → Placed g v

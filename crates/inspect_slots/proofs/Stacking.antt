@@ -11,8 +11,8 @@ use Rattle.region.specs.Areas.{Numbers}
 use Rattle.region.specs.Seen.{Seen}
 use Rattle.region.specs.WellFormed.{FreeSlot, Stacked}
 use Rattle.inspect_slots.specs.Slots.{FreeStack}
-use Rattle.inspect_slots.proofs.Answers.{Tells, told}
-use Rattle.inspect_slots.proofs.Matching.{Met, at-most, all-met, sum-step, sum-ones}
+use Rattle.lists.proofs.Answers.{Tells, told}
+use Rattle.lists.proofs.Matching.{Met, at-most, all-met, sum-step, sum-ones}
 
 -- 1 for a free slot, else 0
 abbrev pub isFree : Seen → ℕ → ℕ
@@ -40,20 +40,20 @@ module _ (g : Numbers) (v : Seen) where
   places-met : sum (isFree v) (g .C) ≡ g .C - g .k → ((c : ℕ) → c < g .C → v .kind c ≡ 0 → Stacked g v c) → (i : ℕ) → i < g .C - g .k → FreeSlot g v i
   places-met e st i h =
       let m : Met (isFree v) (v .link) (v .free) (g .C) i =
-          all-met (isFree v) (λ _. 1) (v .link) (v .free) (g .C) (g .C - g .k) (λ c. omega arith)
-          (λ c l o. let s : Stacked g v c = st c l (omega arith) in record { small = s .in-range; marked = refl; home = s .there })
-          (e ∙ sym (sum-ones (g .C - g .k))) i h refl in
+      all-met (isFree v) (λ _. 1) (v .link) (v .free) (g .C) (g .C - g .k) (λ c. omega arith)
+      (λ c l o. let s : Stacked g v c = st c l (omega arith) in record { small = s .in-range; marked = refl; home = s .there })
+      (e ∙ sym (sum-ones (g .C - g .k))) i h refl in
       record { in-range = m .small; is-free = omega (arith, m .marked); place = m .there }
 
   -- and the other way: neither side has more than the other
   as-many : FreeStack g v → sum (isFree v) (g .C) ≡ g .C - g .k
   as-many s =
       let le : sum (isFree v) (g .C) ≤ sum (λ _. 1) (g .C - g .k) =
-          at-most (isFree v) (λ _. 1) (v .link) (v .free) (g .C) (g .C - g .k) (λ c. omega arith)
-          (λ c l o. let q : Stacked g v c = s .stacked c l (omega arith) in record { small = q .in-range; marked = refl; home = q .there }) in
+      at-most (isFree v) (λ _. 1) (v .link) (v .free) (g .C) (g .C - g .k) (λ c. omega arith)
+      (λ c l o. let q : Stacked g v c = s .stacked c l (omega arith) in record { small = q .in-range; marked = refl; home = q .there }) in
       let ge : sum (λ _. 1) (g .C - g .k) ≤ sum (isFree v) (g .C) =
-          at-most (λ _. 1) (isFree v) (v .free) (v .link) (g .C - g .k) (g .C) (λ i. omega arith)
-          (λ i l o. let q : FreeSlot g v i = s .free-slots i l in record { small = q .in-range; marked = omega (arith, q .is-free); home = q .place }) in
+      at-most (λ _. 1) (isFree v) (v .free) (v .link) (g .C - g .k) (g .C) (λ i. omega arith)
+      (λ i l o. let q : FreeSlot g v i = s .free-slots i l in record { small = q .in-range; marked = omega (arith, q .is-free); home = q .place }) in
       omega (arith, sum-ones (g .C - g .k))
 
   pub free-end : {c n : ℕ} → Free g v c n → c ≡ g .C → Tells (eqb n (g .C - g .k)) (FreeStack g v)

@@ -1,23 +1,17 @@
--- What the tests of the header, the ranks, the free stack and the records decide, over plain lists of words. Assumes nothing.
+-- What the tests of the ranks, the free stack and the records decide, over plain lists of words. Assumes nothing.
 use Prim.Native.Nat.{ℕ, _+_, _-_, _*_, _^_, _<_, _≤_, min}
 use mathlib.Core.Path.{_≡_}
 use mathlib.Core.Logic.{_≢_}
 use mathlib.Core.Bool.{cond}
 use mathlib.Core.List.{List, []}
 use lib.Dec.{eqb}
-use lib.ListN.{length, getD}
+use lib.ListN.{getD}
 use Rattle.lists.specs.Sums.{sum}
-use Rattle.region.specs.Geometry.{headerWords, bitmapWords, recordWords, total}
+use Rattle.region.specs.Geometry.{bitmapWords, recordWords}
 use Rattle.region.specs.Bits.{bit, rank}
-use Rattle.region.specs.Areas.{Numbers, numbers}
+use Rattle.region.specs.Areas.{Numbers}
 use Rattle.region.specs.Seen.{Seen, seenOf}
-use Rattle.region.specs.WellFormed.{Header, FreeSlot, Stacked}
-
--- the header is right, and the slice is as long as it says: every area is there
-pub record Ready (l : List ℕ) : Type 0 where
-  pub has-header : headerWords ≤ length l
-  pub header : Header l (numbers l)
-  pub long : total (numbers l .P) (numbers l .C) (numbers l .N) ≤ length l
+use Rattle.region.specs.WellFormed.{FreeSlot, Stacked}
 
 -- the numbers that the containers' conditions look at; the others are 0
 abbrev pub slotNumbers : ℕ → ℕ → ℕ → Numbers

@@ -6,9 +6,8 @@ ghost use lib.ListN.{length, getD};
 ghost use Rattle.region.specs.Ranges.{form, goodNumbers};
 ghost use Rattle.region.specs.Geometry.{headerWords};
 ghost use Rattle.region.specs.Areas.{numbers};
-ghost use Rattle.region.specs.WellFormed.{Header};
+ghost use Rattle.region.specs.WellFormed.{Header, Ready};
 ghost use Rattle.make.specs.Laid.{GeometryOf};
-ghost use Rattle.inspect_slots.specs.Slots.{Ready};
 use make::geometry::FORM;
 use make::geometry::Geometry;
 use make::geometry::HEADER_WORDS;
@@ -78,5 +77,8 @@ pub fn header_ok(region: &[u64]) -> bool
     if !offsets_ok(region, g) {
         return false;
     }
-    g.total <= region.len()
+    if region.len() < g.total {
+        return false;
+    }
+    true
 }

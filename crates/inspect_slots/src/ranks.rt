@@ -7,8 +7,7 @@ ghost use lib.ListN.{length};
 ghost use Rattle.region.specs.Geometry.{bitmapWords, recordWords};
 ghost use Rattle.region.specs.WellFormed.{Placed};
 ghost use Rattle.inspect_slots.specs.Slots.{slotNumbers, slotSeen, BorneAt, AllBorne, InUse};
-use bitvector::Next;
-use bitvector::bitmap::next_set;
+use bitvector::word;
 use make::geometry::RECORD_WORDS;
 
 // 2^P: one more than the greatest prefix.
@@ -40,7 +39,8 @@ fn borne_at(ranks: &[u64], records: &[u64], slots: usize, k: usize, p: usize, n:
     records[at + 1] == p as u64
 }
 
-// Whether k prefixes are set, each borne by the record at its rank: from set bit to set bit, so that clear words cost a look each.
+// Whether k prefixes are set, each borne by the record at its rank. What is left of word j is kept by itself: a clear word costs one
+// look, and a set bit no second one.
 fn all_borne(bitmap: &[u64], ranks: &[u64], records: &[u64], p: u64, slots: usize, k: usize) -> bool
     requires { ⌜ (length (now bitmap) ≡ bitmapWords p) × (p ≤ 24) ⌝ }
     requires { ⌜ (length (now ranks) ≡ slots) × (length (now records) ≡ recordWords * slots) ⌝ }
@@ -49,22 +49,33 @@ fn all_borne(bitmap: &[u64], ranks: &[u64], records: &[u64], p: u64, slots: usiz
     ensures no { λ r. ⌜ (r ≡ false → AllBorne p slots k (now (bitmap .entry)) (now (ranks .entry)) (now (records .entry)) → ⊥) ⌝ }
 {
     let end = prefixes_end(p);
-    let mut from: usize = 0;
+    let mut j: usize = 0;
+    let mut left = bitmap[0];
     let mut rank: usize = 0;
     loop {
-        let next = next_set(bitmap, from);
-        let Next::At(i) = next else {
-            return rank == k;
-        };
+        if left == 0 {
+            j += 1;
+            if j >= bitmap.len() {
+                break;
+            }
+            left = bitmap[j];
+            continue;
+        }
+        let b = word::lowest(left);
+        let i = j * 64 + b;
         if i >= end {
             return false;
         }
         if !borne_at(ranks, records, slots, k, i, rank) {
             return false;
         }
-        from = i + 1;
+        left = word::without(left, b);
         rank += 1;
     }
+    if rank != k {
+        return false;
+    }
+    true
 }
 
 // 1 for a slot in use, else 0.
@@ -93,12 +104,22 @@ fn in_use(records: &[u64], slots: usize, k: usize) -> bool
         n += one_if_used(kind);
         c += 1;
     }
-    n == k
+    if n != k {
+        return false;
+    }
+    true
 }
 
 // Whether prefixes, ranks and records agree. That each record in use stands at its rank is not looked for: k prefixes have each
 // a record of their own, so if k records are in use there is no other.
-pub fn ranks_ok(bitmap: &[u64], ranks: &[u64], records: &[u64], p: u64, slots: usize, k: u64) -> bool
+pub fn ranks_ok(
+    bitmap: &[u64],
+    ranks: &[u64],
+    records: &[u64],
+    p: u64,
+    slots: usize,
+    k: u64,
+) -> bool
     requires { ⌜ (length (now bitmap) ≡ bitmapWords p) × (p ≤ 24) ⌝ }
     requires { ⌜ (length (now ranks) ≡ slots) × (length (now records) ≡ recordWords * slots) ⌝ }
     ensures yes { λ r. ⌜ (r ≡ true → Placed (slotNumbers p slots k) (slotSeen (now (bitmap .entry)) (now (ranks .entry)) [] (now (records .entry)))) ⌝ }

@@ -4,3 +4,5 @@ pub mod Blocks
 pub mod Each
 pub mod Counts
 pub mod Same
+pub mod Answers
+pub mod Matching

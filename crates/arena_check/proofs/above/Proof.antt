@@ -9,7 +9,7 @@ use borrow.Author.Tests.{eqb-true, eq-eqb, not-true, not-false}
 use Rattle.region.specs.Nodes.{Nodes}
 use Rattle.region.specs.Linked.{Above}
 use Rattle.arena.specs.Arena.{nodesIn}
-use Rattle.arena_check.proofs.Answers.{refused, granted}
+use Rattle.lists.proofs.Answers.{refused, granted}
 use Rattle.arena_check.proofs.above.Statement.{statement}
 use Rattle.arena_check.proofs.above.Tie as tie
 

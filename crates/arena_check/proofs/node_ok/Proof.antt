@@ -10,7 +10,7 @@ use Rattle.region.specs.WellFormed.{StackedNode, NonEmpty}
 use Rattle.region.specs.Linked.{Above}
 use Rattle.arena.specs.Arena.{nodesIn, spareIn}
 use Rattle.arena_check.specs.Checks.{NodeOk}
-use Rattle.arena_check.proofs.Answers.{refused, granted, told}
+use Rattle.lists.proofs.Answers.{refused, granted, told}
 use Rattle.arena_check.proofs.node_ok.Statement.{statement}
 use Rattle.arena_check.proofs.node_ok.Tie as tie
 

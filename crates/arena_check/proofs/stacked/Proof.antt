@@ -6,7 +6,7 @@ use borrow.Author.Needs.{needs}
 use Rattle.region.specs.Nodes.{Nodes}
 use Rattle.region.specs.WellFormed.{StackedNode}
 use Rattle.arena.specs.Arena.{nodesIn, spareIn}
-use Rattle.arena_check.proofs.Answers.{refused, granted}
+use Rattle.lists.proofs.Answers.{refused, granted}
 use Rattle.arena_check.proofs.stacked.Statement.{statement}
 use Rattle.arena_check.proofs.stacked.Tie as tie
 

@@ -4,7 +4,7 @@ use native.Mathlib.Omega.{arith}
 use borrow.Author.Needs.{needs}
 use borrow.Author.Tests.{not-true, not-false}
 use Rattle.arena.specs.Arena.{nodesIn, spareIn}
-use Rattle.arena_check.proofs.Answers.{refused, granted}
+use Rattle.lists.proofs.Answers.{refused, granted}
 use Rattle.arena_check.proofs.Maps.{bits-of}
 use Rattle.arena_check.proofs.Both.{few, node-of}
 use Rattle.arena_check.proofs.Pass.{Passed, pass-start, pass-next, pass-end, taken-few, hung-few, bits-few, branch-few, miscounted, uneven, all-true}

@@ -1,10 +1,9 @@
-use lib.ListN.{length}
 -- Each answer no is of one condition, in the order in which they can be asked. Assumes nothing.
 use mathlib.Core.Path.{sym, _∙_}
 use mathlib.Core.Bool.{false≢true}
 use native.Mathlib.Omega.{arith}
-use borrow.Author.Tests.{not-true, not-false, leb-true, leb-false}
-use Rattle.inspect_slots.proofs.Answers.{refused}
+use borrow.Author.Tests.{not-true, not-false}
+use Rattle.lists.proofs.Answers.{refused, granted}
 use Rattle.inspect_slots.proofs.Offsets.{total-is}
 use borrow.Author.Needs.{needs}
 use Rattle.inspect_slots.proofs.header.header_ok.Statement.{statement}
@@ -50,15 +49,19 @@ returns-4 c = refused (λ r. c .before .offsets-ok .ensures .1 (not-true _ (c .i
 
 returns-5 : tie.Need-returns-5
 returns-5 c =
-    let n = c .before .before .before in
+    let n = c .before .before .before .before in
+    refused (λ r. omega (arith, total-is (n .new .ensures), r .long))
+
+returns-6 : tie.Need-returns-6
+returns-6 c =
+    let o = c .before .before in
+    let n = o .before .before in
     let e = n .before .before .before .before .before .before .before in
-    let l = length (e .before .before .before .before .args .region .now) in
-    let t = total-is (n .new .ensures) in
-    (λ q. record {
+    granted (record {
       has-header = e .before .before .if1 .left;
-      header = c .before .before .offsets-ok .ensures .0 (not-false _ (c .before .if4 .left));
-      long = omega (arith, leb-true (n .new .result .total) l q);
-    }, λ q r. omega (arith, leb-false (n .new .result .total) l q, r .long))
+      header = o .before .offsets-ok .ensures .0 (not-false _ (o .if4 .left));
+      long = omega (arith, total-is (n .new .ensures));
+    })
 
 pub header-ok-spec : {M : Type 1} → statement M
 header-ok-spec =
@@ -76,4 +79,5 @@ header-ok-spec =
     new-requires
     offsets-ok-requires
     returns-4
-    returns-5)
+    returns-5
+    returns-6)

@@ -2,7 +2,7 @@
 use mathlib.Core.Path.{sym, _∙_}
 use borrow.Author.Needs.{needs}
 use borrow.Author.Tests.{not-true, not-false}
-use Rattle.inspect_slots.proofs.Answers.{refused, told}
+use Rattle.lists.proofs.Answers.{refused, told}
 use Rattle.inspect_slots.proofs.Offsets.{ranks-is, stack-is, records-is, entries-is, node-stack-is, nodes-is, total-is}
 use Rattle.inspect_slots.proofs.header.offsets_ok.Statement.{statement}
 use Rattle.inspect_slots.proofs.header.offsets_ok.Tie as tie

@@ -1,7 +1,7 @@
 -- Each answer no is of one of the four conditions.  Assumes nothing.
 use native.Mathlib.Omega.{arith}
 use borrow.Author.Tests.{eqb-true, eqb-false}
-use Rattle.inspect_slots.proofs.Answers.{refused, told}
+use Rattle.lists.proofs.Answers.{refused, told}
 use borrow.Author.Needs.{needs}
 use Rattle.inspect_slots.proofs.ranks.borne_at.Statement.{statement}
 use Rattle.inspect_slots.proofs.ranks.borne_at.Tie as tie

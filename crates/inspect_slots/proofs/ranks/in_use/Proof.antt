@@ -1,8 +1,8 @@
 -- Each turn counts one slot more; a kind past 2 ends it. Assumes nothing.
 use Prim.Native.Nat.{_-_, _≤_}
 use native.Mathlib.Omega.{arith}
-use Rattle.inspect_slots.proofs.Answers.{refused}
-use Rattle.inspect_slots.proofs.Placing.{Used, used-start, used-next, used-end}
+use Rattle.lists.proofs.Answers.{refused, granted}
+use Rattle.inspect_slots.proofs.Placing.{Used, used-start, used-next, used-yes, used-no}
 use borrow.Author.Needs.{needs}
 use Rattle.inspect_slots.proofs.ranks.in_use.Statement.{statement}
 use Rattle.inspect_slots.proofs.ranks.in_use.Tie as tie
@@ -47,12 +47,19 @@ loop-less c = search needs
 loop-again : tie.Need-loop-again Inv-loop μ-loop
 loop-again c =
     let at = c .before .before .before in
-    (omega arith, used-next (at .before .before .before .args .records .now) (at .before .loop .inv .1) _ (c .before .if1 .left) (c .one-if-used .ensures))
+    (omega arith, used-next (at .before .before .before .args .records .now) (at .before .loop .inv .1) _ (omega arith) (c .one-if-used .ensures))
 
 returns-2 : tie.Need-returns-2 Inv-loop μ-loop
 returns-2 c =
-    let a = c .before .before .before .args in
-    used-end (a .records .now) (c .before .loop .inv .1) (a .slots) (a .k) (omega arith)
+    let e = c .before in
+    let a = e .before .before .before .args in
+    refused (used-no (a .records .now) (e .before .loop .inv .1) (a .slots) (a .k) (omega arith) (λ q. omega arith))
+
+returns-3 : tie.Need-returns-3 Inv-loop μ-loop
+returns-3 c =
+    let e = c .before in
+    let a = e .before .before .before .args in
+    granted (used-yes (a .records .now) (e .before .loop .inv .1) (a .slots) (a .k) (omega arith) (omega arith))
 
 pub in-use-spec : {M : Type 1} → statement M
 in-use-spec =
@@ -70,4 +77,5 @@ in-use-spec =
     add-c
     loop-less
     loop-again
-    returns-2)
+    returns-2
+    returns-3)

@@ -1,6 +1,6 @@
 -- The two parts are together what is asked, and each follows from it. Assumes nothing.
 use borrow.Author.Tests.{not-true, not-false}
-use Rattle.inspect_slots.proofs.Answers.{refused, told}
+use Rattle.lists.proofs.Answers.{refused, told}
 use Rattle.inspect_slots.proofs.Placing.{placed-of, borne-of, used-of, too-many}
 use borrow.Author.Needs.{needs}
 use Rattle.inspect_slots.proofs.ranks.ranks_ok.Statement.{statement}

@@ -4,7 +4,7 @@ use mathlib.Core.List.{[]}
 use native.Mathlib.Omega.{arith}
 use borrow.Author.Tests.{not-true, not-false}
 use Rattle.inspect_slots.specs.Slots.{slotNumbers, slotSeen}
-use Rattle.inspect_slots.proofs.Answers.{refused}
+use Rattle.lists.proofs.Answers.{refused}
 use Rattle.inspect_slots.proofs.Stacking.{Free, free-start, free-next, free-end}
 use borrow.Author.Needs.{needs}
 use Rattle.inspect_slots.proofs.stack.stack_ok.Statement.{statement}

@@ -1,7 +1,7 @@
 -- A slot in use is not asked; each answer no is of one of the two conditions. Assumes nothing.
 use native.Mathlib.Omega.{arith}
 use borrow.Author.Tests.{eqb-true, eqb-false}
-use Rattle.inspect_slots.proofs.Answers.{refused, granted, told}
+use Rattle.lists.proofs.Answers.{refused, granted, told}
 use borrow.Author.Needs.{needs}
 use Rattle.inspect_slots.proofs.stack.stacked.Statement.{statement}
 use Rattle.inspect_slots.proofs.stack.stacked.Tie as tie

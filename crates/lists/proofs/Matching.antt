@@ -1,16 +1,17 @@
 -- The numbers below M that f marks go each to a place of its own among those below K that g marks: they are at most as many, and if as many, every place is met.
 -- The idea: in the matrix of who goes where, a row's sum is f and a column's at most g. Assumes nothing.
-use Prim.Native.Nat.{ℕ, zero, suc, _+_, _≤_, _<_}
+use Prim.Native.Nat.{ℕ, zero, suc, _+_, _*_, _/_, _%_, _≤_, _<_}
 use mathlib.Core.Path.{_≡_, refl, sym, ap, _∙_, subst}
 use mathlib.Core.Logic.{_≢_}
 use mathlib.Core.Bool.{cond}
 use native.Mathlib.Omega.{arith}
+use native.Mathlib.Nat.{add-suc}
 use native.Mathlib.Decide.{ℕ-discrete, decLt}
 use lib.Dec.{eqb}
 use borrow.Author.Tests.{eq-eqb, ne-eqb}
 use Rattle.lists.specs.Sums.{sum}
 use Rattle.lists.proofs.Laws.{below-le}
 use Rattle.lists.proofs.Sums.{sum-same, sum-zero, sum-single, sum-swap}
 
 pub sum-step : (f : ℕ → ℕ) (n : ℕ) → sum f (suc n) ≡ f n + sum f n
 unfolding sum
@@ -123,3 +124,21 @@ module _ (f g to back : ℕ → ℕ) (M K : ℕ) (bits : (m : ℕ) → f m < 2) 
       pick : Dec (Met f to back M k) → Met f to back M k
       pick (yes w) = w
       pick (no h) = let t : column k ≡ g k = sum-tight column g K column-le (sym by-columns ∙ e) k l in absurd (omega (arith, not-met k h))
+
+-- rows of 256 places, one after the other, each summed for itself
+module _ (F : ℕ → ℕ → ℕ) where
+  sum-row : (n r : ℕ) → r ≤ 256 → sum (λ k. F (k / 256) (k % 256)) (n * 256 + r) ≡ sum (λ k. F (k / 256) (k % 256)) (n * 256) + sum (F n) r
+  unfolding sum
+  sum-row n zero h = let e : n * 256 + 0 ≡ n * 256 = omega arith in ap (sum (λ k. F (k / 256) (k % 256))) e ∙ omega arith
+  sum-row n (suc r) h =
+      let q : (n * 256 + r) / 256 ≡ n = omega arith in
+      let x : (n * 256 + r) % 256 ≡ r = omega arith in
+      let a : F ((n * 256 + r) / 256) ((n * 256 + r) % 256) ≡ F n r = ap (λ (i : ℕ). F i ((n * 256 + r) % 256)) q ∙ ap (F n) x in
+      let s : sum (λ k. F (k / 256) (k % 256)) (n * 256 + suc r) ≡ sum (λ k. F (k / 256) (k % 256)) (suc (n * 256 + r)) = ap (sum (λ k. F (k / 256) (k % 256))) (add-suc (n * 256) r) in
+      omega (arith, s, sum-row n r (omega arith))
+
+  pub sum-rows : (n : ℕ) → sum (λ k. F (k / 256) (k % 256)) (n * 256) ≡ sum (λ i. sum (F i) 256) n
+  sum-rows zero = unfold sum in refl
+  sum-rows (suc n) =
+      let e : suc n * 256 ≡ n * 256 + 256 = omega arith in
+      ap (sum (λ k. F (k / 256) (k % 256))) e ∙ omega (arith, sum-row n 256 (omega arith), sum-rows n, sum-step (λ i. sum (F i) 256) n)

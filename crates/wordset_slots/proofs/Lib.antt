@@ -1,0 +1,7 @@
+pub mod Shifting
+pub mod Writing
+pub mod Counting
+pub mod Elsewhere
+pub mod Ending
+pub mod Openings
+pub mod Closings
