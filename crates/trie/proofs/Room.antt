@@ -23,10 +23,10 @@ use Rattle.arena.proofs.Stays.{root-at}
 use Rattle.trie.specs.Walked.{Walked}
 
 -- one value more
-different-new : (x : ℕ) (xs : List ℕ) → mem x xs ≡ false → different (x ∷ xs) ≡ suc (different xs)
+pub different-new : (x : ℕ) (xs : List ℕ) → mem x xs ≡ false → different (x ∷ xs) ≡ suc (different xs)
 different-new x xs m = length-put-new x (sorted xs) (ascending-sorted xs) (mem-sorted x xs ∙ m)
 
-different-old : (x : ℕ) (xs : List ℕ) → mem x xs ≡ true → different (x ∷ xs) ≡ different xs
+pub different-old : (x : ℕ) (xs : List ℕ) → mem x xs ≡ true → different (x ∷ xs) ≡ different xs
 different-old x xs m = length-put-old x (sorted xs) (ascending-sorted xs) (mem-sorted x xs ∙ m)
 
 different-put : (f : ℕ → ℕ) (s : ℕ) (xs : List ℕ) → different (map f (put s xs)) ≡ different (f s ∷ map f xs)

@@ -1,0 +1,4 @@
+pub mod Counting
+pub mod Rooting
+pub mod Sowing
+pub mod Reaping

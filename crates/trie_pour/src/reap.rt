@@ -1,0 +1,86 @@
+// A trie emptied, suffix by suffix.
+ghost use mathlib.Core.Path.{_≡_};
+ghost use mathlib.Core.Bool.{true};
+ghost use mathlib.Core.List.{[], _∷_};
+ghost use Prim.Native.Nat.{_+_, _<_, _≤_};
+ghost use lib.ListN.{length, take};
+ghost use Rattle.lists.specs.Lists.{mem, without};
+ghost use Rattle.region.specs.Tries.{members};
+ghost use Rattle.arena.specs.Arena.{nodesIn, Root, Arena, Became, Vanished};
+use trie::Removed;
+
+// Removes a member that is not the only one. Answers the nodes in use afterwards.
+fn one_less(
+    arena: &mut [u64],
+    slots: usize,
+    used: usize,
+    b: usize,
+    root: usize,
+    suffix: u64,
+) -> usize
+    requires { ⌜ Arena slots b used (now arena) ⌝ }
+    requires { ⌜ Root (nodesIn slots (now arena)) slots root ⌝ }
+    requires { ⌜ 1 ≤ b ⌝ }
+    requires { ⌜ b ≤ 5 ⌝ }
+    requires { ⌜ mem suffix (members (nodesIn slots (now arena)) b root) ≡ true ⌝ }
+    requires { ⌜ 2 ≤ length (members (nodesIn slots (now arena)) b root) ⌝ }
+    ensures { λ r. ⌜ Became slots b used (now (arena .entry)) root (without suffix (members (nodesIn slots (now (arena .entry))) b root)) r (now (arena .exit)) ⌝ }
+{
+    let done = trie::remove(arena, slots, used, b, root, suffix);
+    match done {
+        Removed::Gone(left) => left,
+        Removed::Last(left) => left,
+        Removed::Absent => used,
+    }
+}
+
+// Removes the only member. Answers the nodes in use afterwards.
+fn only_one(
+    arena: &mut [u64],
+    slots: usize,
+    used: usize,
+    b: usize,
+    root: usize,
+    suffix: u64,
+) -> usize
+    requires { ⌜ Arena slots b used (now arena) ⌝ }
+    requires { ⌜ Root (nodesIn slots (now arena)) slots root ⌝ }
+    requires { ⌜ 1 ≤ b ⌝ }
+    requires { ⌜ b ≤ 5 ⌝ }
+    requires { ⌜ members (nodesIn slots (now arena)) b root ≡ suffix ∷ [] ⌝ }
+    ensures { λ r. ⌜ Vanished slots b used (now (arena .entry)) root r (now (arena .exit)) ⌝ }
+{
+    let done = trie::remove(arena, slots, used, b, root, suffix);
+    match done {
+        Removed::Gone(left) => left,
+        Removed::Last(left) => left,
+        Removed::Absent => used,
+    }
+}
+
+// Removes the members, which are the first n entries of the output. Answers the nodes in use afterwards.
+pub(crate) fn empty(
+    arena: &mut [u64],
+    slots: usize,
+    used: usize,
+    b: usize,
+    root: usize,
+    out: &[u64],
+    n: usize,
+) -> usize
+    requires { ⌜ Arena slots b used (now arena) ⌝ }
+    requires { ⌜ Root (nodesIn slots (now arena)) slots root ⌝ }
+    requires { ⌜ 1 ≤ b ⌝ }
+    requires { ⌜ b ≤ 5 ⌝ }
+    requires { ⌜ n ≤ length (now out) ⌝ }
+    requires { ⌜ members (nodesIn slots (now arena)) b root ≡ take n (now out) ⌝ }
+    ensures { λ r. ⌜ Vanished slots b used (now (arena .entry)) root r (now (arena .exit)) ⌝ }
+{
+    let mut left = used;
+    let mut i: usize = 0;
+    while i + 1 < n {
+        left = one_less(arena, slots, left, b, root, out[i]);
+        i += 1;
+    }
+    only_one(arena, slots, left, b, root, out[i])
+}

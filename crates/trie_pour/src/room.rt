@@ -1,0 +1,89 @@
+// How many nodes some suffixes need, and whether that many are there.
+ghost use mathlib.Core.Path.{_≡_};
+ghost use mathlib.Core.List.{map};
+ghost use Prim.Native.Nat.{ℕ, _+_, _-_, _*_, _/_, _^_, _<_, _≤_};
+ghost use lib.Dec.{leb};
+ghost use lib.ListN.{length, drop, getD};
+ghost use Rattle.lists.specs.Lists.{mem};
+ghost use Rattle.model.specs.Room.{leading, trieNodes};
+
+// The leading j of the b bytes of a suffix.
+fn lead(s: u64, b: usize, j: usize) -> u64
+    requires { ⌜ 1 ≤ j ⌝ }
+    requires { ⌜ j ≤ b ⌝ }
+    requires { ⌜ b ≤ 5 ⌝ }
+    ensures { λ r. ⌜ r ≡ s / 256 ^ (b - j) ⌝ }
+{
+    s >> (8 * (b - j))
+}
+
+// Whether a later suffix begins with the same j bytes as suffix i.
+fn again(strip: &[u64], b: usize, j: usize, i: usize) -> bool
+    requires { ⌜ 1 ≤ j ⌝ }
+    requires { ⌜ j ≤ b ⌝ }
+    requires { ⌜ b ≤ 5 ⌝ }
+    requires { ⌜ i < length (now strip) ⌝ }
+    ensures { λ r. ⌜ r ≡ mem (getD (now (strip .entry)) i 0 / 256 ^ (b - j)) (map (λ s. s / 256 ^ (b - j)) (drop (i + 1) (now (strip .entry)))) ⌝ }
+{
+    let x = lead(strip[i], b, j);
+    let mut k = i + 1;
+    while k < strip.len() {
+        if lead(strip[k], b, j) == x {
+            return true;
+        }
+        k += 1;
+    }
+    false
+}
+
+// How many different leading strings of j bytes the suffixes have.
+fn heads(strip: &[u64], b: usize, j: usize) -> usize
+    requires { ⌜ 1 ≤ j ⌝ }
+    requires { ⌜ j ≤ b ⌝ }
+    requires { ⌜ b ≤ 5 ⌝ }
+    ensures is { λ r. ⌜ r ≡ leading b (now (strip .entry)) j ⌝ }
+    ensures few { λ r. ⌜ r ≤ length (now (strip .entry)) ⌝ }
+{
+    let mut n: usize = 0;
+    let mut i = strip.len();
+    while i > 0 {
+        i -= 1;
+        if !again(strip, b, j, i) {
+            n += 1;
+        }
+    }
+    n
+}
+
+// The nodes that the suffixes need: the root, and for each length below b their different leading strings.
+fn nodes(strip: &[u64], b: usize) -> usize
+    requires { ⌜ 1 ≤ b ⌝ }
+    requires { ⌜ b ≤ 5 ⌝ }
+    requires { ⌜ 1 ≤ length (now strip) ⌝ }
+    requires { ⌜ length (now strip) ≤ 1025 ⌝ }
+    requires { ⌜ ((i : ℕ) → i < length (now strip) → getD (now strip) i 0 < 2 ^ (8 * b)) ⌝ }
+    ensures { λ r. ⌜ r ≡ trieNodes b (now (strip .entry)) ⌝ }
+{
+    let mut n: usize = 1;
+    let mut j: usize = 1;
+    while j < b {
+        n += heads(strip, b, j);
+        j += 1;
+    }
+    n
+}
+
+// Whether the nodes that the suffixes need are at most `room`. They are no more than the root and b - 1 for each suffix; only where that many are not there are they counted.
+pub(crate) fn fits(strip: &[u64], b: usize, room: usize) -> bool
+    requires { ⌜ 1 ≤ b ⌝ }
+    requires { ⌜ b ≤ 5 ⌝ }
+    requires { ⌜ 1 ≤ length (now strip) ⌝ }
+    requires { ⌜ length (now strip) ≤ 1025 ⌝ }
+    requires { ⌜ ((i : ℕ) → i < length (now strip) → getD (now strip) i 0 < 2 ^ (8 * b)) ⌝ }
+    ensures { λ r. ⌜ r ≡ leb (trieNodes b (now (strip .entry))) room ⌝ }
+{
+    if 1 + (b - 1) * strip.len() <= room {
+        return true;
+    }
+    nodes(strip, b) <= room
+}

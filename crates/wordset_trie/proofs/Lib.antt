@@ -1,0 +1,5 @@
+pub mod Settling
+pub mod Arenas
+pub mod Lent
+pub mod Putting
+pub mod Taking

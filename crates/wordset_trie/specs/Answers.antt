@@ -1,0 +1,35 @@
+-- What the answers of a put and a take say. l is the region at entry and l′ at exit; the suffixes are those of slot c at entry. Assumes nothing.
+use Prim.Native.Nat.{ℕ, _+_, _<_}
+use mathlib.Core.Path.{_≡_}
+use mathlib.Core.Bool.{Bool, true, false}
+use mathlib.Core.List.{List}
+use Rattle.lists.specs.Lists.{mem, put, without}
+use Rattle.model.specs.Words.{bytesOf}
+use Rattle.model.specs.Room.{trieNodes}
+use Rattle.model.specs.Change.{placed, with}
+use Rattle.region.specs.Areas.{numbers}
+use Rattle.region.specs.Seen.{seen}
+use Rattle.region.specs.Read.{suffixes, reading}
+use Rattle.promises.specs.Reads.{ReadsAs}
+use Rattle.wordset_trie.specs.declared.Outcome.{Outcome}
+use Rattle.wordset_trie.specs.declared.Outcome.the-variants.{New, Old, NoRoom}
+
+-- the suffixes in slot c of a region
+abbrev pub heldIn : ℕ → List ℕ → List ℕ
+heldIn c l = suffixes (numbers l) (seen (numbers l) l) c
+
+-- the region reads as before, with the suffixes ss in slot c
+abbrev pub ReadsWith : ℕ → List ℕ → List ℕ → List ℕ → Type 0
+ReadsWith c ss l l′ = ReadsAs l (with (reading l) (placed (seen (numbers l) l .prefix c) 0 ss (reading l .containers)) (reading l .free)) l′
+
+-- s was new and is a member now; it was one already; or the nodes that the members with s need pass what is there. But for the first nothing is changed
+abbrev pub PutAs : ℕ → ℕ → List ℕ → Outcome → List ℕ → Type 0
+PutAs c s l New l′ = (mem s (heldIn c l) ≡ false) × ReadsWith c (put s (heldIn c l)) l l′
+PutAs c s l Old l′ = (mem s (heldIn c l) ≡ true) × (l′ ≡ l)
+PutAs c s l NoRoom l′ =
+    (mem s (heldIn c l) ≡ false) × (numbers l .N + trieNodes (bytesOf (numbers l .S)) (heldIn c l) < numbers l .used + trieNodes (bytesOf (numbers l .S)) (put s (heldIn c l))) × (l′ ≡ l)
+
+-- s was a member and is none now; or it was none, and nothing is changed
+abbrev pub TakenAs : ℕ → ℕ → List ℕ → Bool → List ℕ → Type 0
+TakenAs c s l true l′ = (mem s (heldIn c l) ≡ true) × ReadsWith c (without s (heldIn c l)) l l′
+TakenAs c s l false l′ = (mem s (heldIn c l) ≡ false) × (l′ ≡ l)
