@@ -1,0 +1,223 @@
+//! The port as its two static libraries export it: leaves from the tests' crate `leaves`, make from the library
+//! that users link. A leaf refuses what it cannot do with REFUSED. Entries join here as they land.
+
+pub const REFUSED: u64 = u64::MAX;
+
+#[repr(C)]
+#[derive(Clone, Copy, Debug, PartialEq, Eq)]
+pub struct Verdict {
+    pub number: u64,
+    pub place: u64,
+}
+
+/// How many commands were done, REFUSED if none could be, and the nodes in use.
+#[repr(C)]
+#[derive(Clone, Copy, Debug, PartialEq, Eq)]
+pub struct Ran {
+    pub done: u64,
+    pub used: u64,
+}
+
+mod c {
+    use super::{Ran, Verdict};
+    unsafe extern "C" {
+        pub fn leaf_map_contains(map: *const u64, words: usize, xs: *const u8, many: usize) -> u64;
+        pub fn leaf_map_change(
+            map: *mut u64,
+            words: usize,
+            codes: *const u8,
+            many_codes: usize,
+            xs: *const u8,
+            many: usize,
+            answers: *mut u8,
+            many_answers: usize,
+        ) -> u64;
+        pub fn leaf_map_pairs(map: *mut u64, words: usize, xs: *const u8, many: usize, ys: *const u8, many_ys: usize) -> u64;
+        pub fn leaf_map_rank(map: *const u64, words: usize, xs: *const u8, many: usize) -> u64;
+        pub fn leaf_map_count(maps: *const u64, words: usize) -> u64;
+        pub fn leaf_map_walk(map: *const u64, words: usize, out: *mut u8, room: usize) -> u64;
+        pub fn leaf_map_next(map: *const u64, words: usize, from: u64) -> u64;
+        pub fn leaf_map_is_empty(map: *const u64, words: usize) -> u64;
+        pub fn leaf_bitmap_rank(words: *const u64, many: usize, places: *const u64, many_places: usize) -> u64;
+        pub fn leaf_bitmap_test(words: *const u64, many: usize, places: *const u64, many_places: usize) -> u64;
+        pub fn leaf_bitmap_set(words: *mut u64, many: usize, place: u64) -> u64;
+        pub fn leaf_bitmap_clear(words: *mut u64, many: usize, place: u64) -> u64;
+        pub fn leaf_bytes(suffixes: *const u64, many: usize, b: u64, out: *mut u8, room: usize) -> u64;
+        pub fn leaf_value(s: u64, b: u64) -> u64;
+        pub fn leaf_compare(s: u64, t: u64, b: u64) -> u64;
+        pub fn leaf_trie_run(
+            arena: *mut u64,
+            words: usize,
+            slots: u64,
+            used: u64,
+            b: u64,
+            root: u64,
+            codes: *const u8,
+            many_codes: usize,
+            suffixes: *const u64,
+            many: usize,
+            answers: *mut u8,
+            many_answers: usize,
+        ) -> Ran;
+        pub fn brothowl_make(region: *mut u64, words: usize, p: u64, s: u64, c: u64, n: u64) -> Verdict;
+    }
+}
+
+// Safe to call: a slice is its pointer and its length, and nothing else is asked.
+
+pub fn map_contains(map: &[u64], xs: &[u8]) -> u64 {
+    unsafe { c::leaf_map_contains(map.as_ptr(), map.len(), xs.as_ptr(), xs.len()) }
+}
+
+/// Codes: 0 asks, 1 inserts, any other removes.
+pub fn map_change(map: &mut [u64], codes: &[u8], xs: &[u8], answers: &mut [u8]) -> u64 {
+    unsafe {
+        c::leaf_map_change(
+            map.as_mut_ptr(),
+            map.len(),
+            codes.as_ptr(),
+            codes.len(),
+            xs.as_ptr(),
+            xs.len(),
+            answers.as_mut_ptr(),
+            answers.len(),
+        )
+    }
+}
+
+pub fn map_pairs(map: &mut [u64], xs: &[u8], ys: &[u8]) -> u64 {
+    unsafe { c::leaf_map_pairs(map.as_mut_ptr(), map.len(), xs.as_ptr(), xs.len(), ys.as_ptr(), ys.len()) }
+}
+
+pub fn map_rank(map: &[u64], xs: &[u8]) -> u64 {
+    unsafe { c::leaf_map_rank(map.as_ptr(), map.len(), xs.as_ptr(), xs.len()) }
+}
+
+pub fn map_count(maps: &[u64]) -> u64 {
+    unsafe { c::leaf_map_count(maps.as_ptr(), maps.len()) }
+}
+
+pub fn map_walk(map: &[u64], out: &mut [u8]) -> u64 {
+    unsafe { c::leaf_map_walk(map.as_ptr(), map.len(), out.as_mut_ptr(), out.len()) }
+}
+
+pub fn map_next(map: &[u64], from: u64) -> u64 {
+    unsafe { c::leaf_map_next(map.as_ptr(), map.len(), from) }
+}
+
+pub fn map_is_empty(map: &[u64]) -> u64 {
+    unsafe { c::leaf_map_is_empty(map.as_ptr(), map.len()) }
+}
+
+pub fn bitmap_rank(words: &[u64], places: &[u64]) -> u64 {
+    unsafe { c::leaf_bitmap_rank(words.as_ptr(), words.len(), places.as_ptr(), places.len()) }
+}
+
+pub fn bitmap_test(words: &[u64], places: &[u64]) -> u64 {
+    unsafe { c::leaf_bitmap_test(words.as_ptr(), words.len(), places.as_ptr(), places.len()) }
+}
+
+pub fn bitmap_set(words: &mut [u64], place: u64) -> u64 {
+    unsafe { c::leaf_bitmap_set(words.as_mut_ptr(), words.len(), place) }
+}
+
+pub fn bitmap_clear(words: &mut [u64], place: u64) -> u64 {
+    unsafe { c::leaf_bitmap_clear(words.as_mut_ptr(), words.len(), place) }
+}
+
+pub fn bytes(suffixes: &[u64], b: u64, out: &mut [u8]) -> u64 {
+    unsafe { c::leaf_bytes(suffixes.as_ptr(), suffixes.len(), b, out.as_mut_ptr(), out.len()) }
+}
+
+pub fn value(s: u64, b: u64) -> u64 {
+    unsafe { c::leaf_value(s, b) }
+}
+
+pub fn compare(s: u64, t: u64, b: u64) -> u64 {
+    unsafe { c::leaf_compare(s, t, b) }
+}
+
+pub fn make(region: &mut [u64], p: u64, s: u64, c: u64, n: u64) -> Verdict {
+    unsafe { c::brothowl_make(region.as_mut_ptr(), region.len(), p, s, c, n) }
+}
+
+/// One trie in an arena of its own.
+pub struct Trie {
+    pub arena: Vec<u64>,
+    pub slots: u64,
+    pub used: u64,
+    pub b: u64,
+}
+
+pub const NODE: usize = 264;
+
+/// Byte j of a suffix, the most significant first.
+pub fn byte(b: u64, s: u64, j: u64) -> usize {
+    (s >> (8 * (b - 1 - j)) & 255) as usize
+}
+
+impl Trie {
+    /// A trie of one suffix, laid out by hand: its nodes are 0 to b - 1, the root is 0.
+    pub fn new(slots: u64, b: u64, suffix: u64) -> Trie {
+        let mut arena = vec![0; slots as usize * (1 + NODE)];
+        for j in 0..b {
+            let x = byte(b, suffix, j);
+            let node = &mut arena[slots as usize + j as usize * NODE..][..NODE];
+            node[x / 64] |= 1 << (x % 64);
+            node[4] = j + 1;
+            if j + 1 < b {
+                node[8 + x] = j + 1;
+            }
+            if j > 0 {
+                node[5] = j - 1;
+                node[6] = byte(b, suffix, j - 1) as u64;
+            }
+        }
+        for place in 0..slots - b {
+            let node = slots - 1 - place;
+            arena[place as usize] = node;
+            arena[slots as usize + node as usize * NODE + 5] = place;
+        }
+        Trie { arena, slots, used: b, b }
+    }
+
+    /// Codes: 0 asks, 1 inserts, any other removes. The answers end at the first 2: no room, or the last suffix gone.
+    pub fn run(&mut self, codes: &[u8], suffixes: &[u64], answers: &mut [u8]) -> u64 {
+        let ran = unsafe {
+            c::leaf_trie_run(
+                self.arena.as_mut_ptr(),
+                self.arena.len(),
+                self.slots,
+                self.used,
+                self.b,
+                0,
+                codes.as_ptr(),
+                codes.len(),
+                suffixes.as_ptr(),
+                suffixes.len(),
+                answers.as_mut_ptr(),
+                answers.len(),
+            )
+        };
+        self.used = ran.used;
+        ran.done
+    }
+
+    /// The suffixes, ascending, by a reading of the words that is not the port's.
+    pub fn members(&self) -> Vec<u64> {
+        let mut found = Vec::new();
+        self.below(0, 0, 0, &mut found);
+        found
+    }
+
+    fn below(&self, node: u64, level: u64, prefix: u64, found: &mut Vec<u64>) {
+        let at = self.slots as usize + node as usize * NODE;
+        for x in (0..256usize).filter(|x| self.arena[at + x / 64] >> (x % 64) & 1 == 1) {
+            let prefix = prefix << 8 | x as u64;
+            match level + 1 == self.b {
+                true => found.push(prefix),
+                false => self.below(self.arena[at + 8 + x], level + 1, prefix, found),
+            }
+        }
+    }
+}
