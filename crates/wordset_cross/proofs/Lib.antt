@@ -1,0 +1,4 @@
+pub mod Settling
+pub mod Planting
+pub mod Growing
+pub mod Pouring
