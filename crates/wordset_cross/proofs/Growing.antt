@@ -147,9 +147,10 @@ module _ (l : List ℕ) (wf : WellFormed l) where
               let x : Holding g (withArena (take (g .N) new) (drop (g .N) new) (partsOf g l)) l (withLent l new) = given new (planted .arena .tries .long) in
               (x .ready, subst (λ (n : Numbers). c < n .C) (sym (x .numbers-are)) h)
 
-          pub grow-done : {m : ℕ} {l′ : List ℕ} → Settled c 2 1025 root used′ m (withLent l new) l′ → m ≡ g .count + 1 → ReadsWith c (sorted all) l l′
+          pub grow-done : {n m : ℕ} {l′ : List ℕ} → Settled c 2 n root used′ m (withLent l new) l′ → n ≡ 1025 → m ≡ g .count + 1 → ReadsWith c (sorted all) l l′
           unfolding seen reading read
-          grow-done {m} {l′} st em =
+          grow-done {n} {m} {l′} st₀ en em =
+              let st : Settled c 2 1025 root used′ m (withLent l new) l′ = subst (λ (z : ℕ). Settled c 2 z root used′ m (withLent l new) l′) en st₀ in
               let x : Parts = partsOf g l in
               let w : Seen = seenIn (plantedParts g x c new 1025 root) in
               let settled : Holding (counted g (g .k) used′ m) (plantedParts g x c new 1025 root) l l′ = st .holds g (withArena (take (g .N) new) (drop (g .N) new) x) l (given new (planted .arena .tries .long)) h in

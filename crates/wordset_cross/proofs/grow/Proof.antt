@@ -109,7 +109,7 @@ returns c =
     let co = c .before .before .before .before .before .before .before .before .before .before .before .before .before .before .before in
     let at = co .before .before .before .before .before .before .before .before .before .before in
     let long : length (co .copy-out .last .1 .1 .1 .0) ≡ 1025 = search needs in
-    grow-done (at .args .region .now) (at .pre .0) (at .args .c) (at .pre .1 .0) (at .pre .1 .1 .0) (at .pre .1 .1 .1 .0) (at .args .s) (at .pre .1 .1 .1 .1 .0) (at .pre .1 .1 .1 .1 .1) (co .copy-out .last .1 .1 .1 .0) long (co .copy-out .ensures) (pl .plant .result) (pl .plant .last .0) (pl .plant .ensures) (c .before .before .before .before .before .root .given .1) (c .before .before .settle .ensures) (omega arith)
+    grow-done (at .args .region .now) (at .pre .0) (at .args .c) (at .pre .1 .0) (at .pre .1 .1 .0) (at .pre .1 .1 .1 .0) (at .args .s) (at .pre .1 .1 .1 .1 .0) (at .pre .1 .1 .1 .1 .1) (co .copy-out .last .1 .1 .1 .0) long (co .copy-out .ensures) (pl .plant .result) (pl .plant .last .0) (pl .plant .ensures) (c .before .before .before .before .before .root .given .1) (c .before .before .settle .ensures) (omega arith) (omega arith)
 
 same-length-2 : tie.Need-same-length-2
 same-length-2 c = search needs

@@ -1,0 +1,4 @@
+pub mod RootBytes
+pub mod Lent
+pub mod Holds
+pub mod Roots
