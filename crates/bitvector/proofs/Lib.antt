@@ -6,3 +6,4 @@ pub mod Four
 pub mod Taking
 pub mod Loaded
 pub mod WordsLent
+pub mod Walking

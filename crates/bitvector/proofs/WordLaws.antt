@@ -109,6 +109,41 @@ clear-other w k h hw j n = go (decLt j 64)
     go (no l) =
         high-zero _ j (lt-of-le-of-lt (and-le-l w ((2 ^ 64 - 1) - (1 * 2 ^ k) % 2 ^ 64)) hw) (omega arith) ∙ sym (high-zero w j hw (omega arith))
 
+-- ---- `w & (w - 1)`
+
+-- one less differs in the lowest set bit and below it: there it is clear, and above it nothing changes
+less-bit : (w k : ℕ) → wordBit w k ≡ 1 → ((b : ℕ) → b < k → wordBit w b ≡ 0) → (wordBit (w - 1) k ≡ 0) × ((j : ℕ) → k < j → wordBit (w - 1) j ≡ wordBit w j)
+less-bit w zero e z =
+    let odd : w % 2 ≡ 1 = ap (λ (x : ℕ). x % 2) (sym (div-one w)) ∙ e in
+    let half : (w - 1) / 2 ≡ w / 2 = omega arith in
+    (ap (λ (x : ℕ). x % 2) (div-one (w - 1)) ∙ omega arith, λ j h. above j h half)
+  where
+    above : (j : ℕ) → 0 < j → (w - 1) / 2 ≡ w / 2 → wordBit (w - 1) j ≡ wordBit w j
+    above zero h half = absurd (omega arith)
+    above (suc j) h half = bit-suc (w - 1) j ∙ ap (λ (x : ℕ). wordBit x j) half ∙ sym (bit-suc w j)
+less-bit w (suc k) e z =
+    let even : w % 2 ≡ 0 = ap (λ (x : ℕ). x % 2) (sym (div-one w)) ∙ z 0 (zero-lt-suc k) in
+    let half : (w - 1) / 2 ≡ w / 2 - 1 = omega arith in
+    let ih = less-bit (w / 2) k (sym (bit-suc w k) ∙ e) (λ b h. sym (bit-suc w b) ∙ z (suc b) (suc-le-suc h)) in
+    (bit-suc (w - 1) k ∙ ap (λ (x : ℕ). wordBit x k) half ∙ ih .0, λ j h. above j h half (ih .1))
+  where
+    above : (j : ℕ) → suc k < j → (w - 1) / 2 ≡ w / 2 - 1 → ((j : ℕ) → k < j → wordBit (w / 2 - 1) j ≡ wordBit (w / 2) j) → wordBit (w - 1) j ≡ wordBit w j
+    above zero h half f = absurd (omega arith)
+    above (suc j) h half f = bit-suc (w - 1) j ∙ ap (λ (x : ℕ). wordBit x j) half ∙ f j (le-of-suc-le-suc h) ∙ sym (bit-suc w j)
+
+module _ (w k : ℕ) (one : wordBit w k ≡ 1) (none : (b : ℕ) → b < k → wordBit w b ≡ 0) where
+  pub lowest-here : wordBit (bitAnd w (w - 1)) k ≡ 0
+  lowest-here = and-bit w (w - 1) k ∙ ap (min (wordBit w k)) (less-bit w k one none .0) ∙ min-zero (wordBit w k)
+
+  pub lowest-other : (j : ℕ) → j ≢ k → wordBit (bitAnd w (w - 1)) j ≡ wordBit w j
+  lowest-other j n = go (decLt j k)
+    where
+      go : Dec (j < k) → wordBit (bitAnd w (w - 1)) j ≡ wordBit w j
+      go (yes h) = and-bit w (w - 1) j ∙ ap (λ (x : ℕ). min x (wordBit (w - 1) j)) (none j h) ∙ min-eq-left (omega arith) ∙ sym (none j h)
+      go (no h) =
+          let u : k < j = omega arith in
+          and-bit w (w - 1) j ∙ ap (min (wordBit w j)) (less-bit w k one none .1 j u) ∙ min-eq-left (omega arith)
+
 -- ---- `count_ones(w & ((1 << k) - 1))`
 
 pub below-word : (w k : ℕ) → k < 64 → bitAnd w ((1 * 2 ^ k) % 2 ^ 64 - 1) ≡ w % 2 ^ k

@@ -1,10 +1,10 @@
 -- What the functions over a map of bits say, over the one definition of a bit (region/specs/Bits). Assumes nothing.
-use Prim.Native.Nat.{ℕ, _*_, _/_, _%_, _≤_, _<_}
+use Prim.Native.Nat.{ℕ, _+_, _*_, _/_, _%_, _≤_, _<_}
 use mathlib.Core.Path.{_≡_}
 use mathlib.Core.Logic.{_≢_}
 use mathlib.Core.List.{List}
 use lib.ListN.{length, getD}
-use Rattle.region.specs.Bits.{wordBit, bit}
+use Rattle.region.specs.Bits.{wordBit, bit, rank}
 use Rattle.bitvector.specs.declared.Next.{Next}
 use Rattle.bitvector.specs.declared.Next.the-variants.{At, Nothing}
 
@@ -43,3 +43,22 @@ NextSet ws from Nothing = (j : ℕ) → from ≤ j → bit ws j ≡ 0
 abbrev pub Popped : List ℕ → Next → List ℕ → Type 0
 Popped ws (At i) rest = Least ws 0 i × Made ws i 0 rest
 Popped ws Nothing rest = ((j : ℕ) → bit ws j ≡ 0) × (rest ≡ ws)
+
+-- the bytes of the map w stand in out′ in ascending order from its first place on, n of them, and behind them it is as out
+pub record WalkedInto (w out : List ℕ) (n : ℕ) (out′ : List ℕ) : Type 0 where
+  pub number : n ≡ rank w 256
+  pub here : (x : ℕ) → x < 256 → bit w x ≡ 1 → getD out′ (rank w x) 0 ≡ x
+  pub stays : (j : ℕ) → n ≤ j → getD out′ j 0 ≡ getD out j 0
+  pub same-length : length out′ ≡ length out
+
+-- the same of the bytes below m alone: how far a walk has come
+pub record WalkedTo (w : List ℕ) (m : ℕ) (out : List ℕ) (n : ℕ) (out′ : List ℕ) : Type 0 where
+  pub number : n ≡ rank w m
+  pub here : (x : ℕ) → x < m → bit w x ≡ 1 → getD out′ (rank w x) 0 ≡ x
+  pub stays : (j : ℕ) → n ≤ j → getD out′ j 0 ≡ getD out j 0
+  pub same-length : length out′ ≡ length out
+
+-- of whatever map w is a word whose bits are counted from base on, a walk that has come to the word goes on past it
+abbrev pub WordWalked : ℕ → ℕ → ℕ → List ℕ → ℕ → List ℕ → Type 0
+WordWalked w base at mid n out′ =
+    (ws out : List ℕ) (q : ℕ) → getD ws q 0 ≡ w → q * 64 ≡ base → WalkedTo ws base out at mid → WalkedTo ws (base + 64) out n out′

@@ -1,11 +1,11 @@
 // The map of a node: 256 bits by value, where byte x is bit x mod 64 of word x div 64.
 ghost use mathlib.Core.Path.{_≡_};
 ghost use mathlib.Core.List.{_++_};
-ghost use Prim.Native.Nat.{ℕ, _≤_};
+ghost use Prim.Native.Nat.{ℕ, _+_, _≤_};
 ghost use lib.Dec.{eqb};
 ghost use lib.ListN.{length, take, drop};
 ghost use Rattle.region.specs.Bits.{bit, rank};
-ghost use Rattle.bitvector.specs.Maps.{Made, NextSet, Popped};
+ghost use Rattle.bitvector.specs.Maps.{Made, NextSet, Popped, WalkedInto, WordWalked};
 use super::Next;
 use super::bitmap;
 use super::word;
@@ -51,6 +51,22 @@ pub fn remove_in(w: &mut [u64; 4], x: u8) -> bool
     ensures { λ r. ⌜ Made (now (w .entry)) x 0 (now (w .exit)) × (r ≡ eqb (bit (now (w .entry)) x) 1) ⌝ }
 {
     bitmap::clear(w, x as usize)
+}
+
+// The walk over one word, whose bits are counted from base on: it goes on where the words before it came to.
+fn walk_word(w: u64, base: usize, out: &mut [u8], at: usize) -> usize
+    requires { ⌜ (base + 64 ≤ 256) × (at + 64 ≤ length (now out)) ⌝ }
+    ensures on { λ r. ⌜ WordWalked w base at (now (out .entry)) r (now (out .exit)) ⌝ }
+    ensures few { λ r. ⌜ r ≤ at + 64 ⌝ }
+{
+    let mut left = w;
+    let mut at = at;
+    while left != 0 {
+        out[at] = (base + word::lowest(left)) as u8;
+        at += 1;
+        left = word::without_lowest(left);
+    }
+    at
 }
 
 impl TinyBitvector {
@@ -206,6 +222,17 @@ impl TinyBitvector {
             at: Next::Nothing,
             rest: self,
         }
+    }
+
+    // Writes the bytes of the map, ascending, by trailing zeros, and answers how many. What is left of a word is kept by itself: a clear word costs one look.
+    pub fn walk(self, out: &mut [u8]) -> usize
+        requires { ⌜ 256 ≤ length (now out) ⌝ }
+        ensures { λ r. ⌜ WalkedInto (self .w) (now (out .entry)) r (now (out .exit)) ⌝ }
+    {
+        let a = walk_word(self.w[0], 0, out, 0);
+        let b = walk_word(self.w[1], 64, out, a);
+        let c = walk_word(self.w[2], 128, out, b);
+        walk_word(self.w[3], 192, out, c)
     }
 
     // The least byte of the map at or past `from`, by trailing zeros.

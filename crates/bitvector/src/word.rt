@@ -61,6 +61,16 @@ pub fn lowest(w: u64) -> usize
     u64::trailing_zeros(w) as usize
 }
 
+// w without its lowest set bit. The place is not asked for: a walk need not wait for it.
+pub fn without_lowest(w: u64) -> u64
+    requires { ⌜ w ≢ 0 ⌝ }
+    ensures here { λ r. ⌜ ((k : ℕ) → Lowest w k → wordBit r k ≡ 0) ⌝ }
+    ensures other { λ r. ⌜ ((k : ℕ) → Lowest w k → (j : ℕ) → j ≢ k → wordBit r j ≡ wordBit w j) ⌝ }
+    ensures less { λ r. ⌜ r < w ⌝ }
+{
+    w & (w - 1)
+}
+
 // How many bits of w are set.
 pub fn count(w: u64) -> usize
     ensures is { λ r. ⌜ r ≡ ones w ⌝ }

@@ -119,7 +119,7 @@ pub extern "C" fn leaf_map_count(maps: &[u64]) -> u64 {
     n
 }
 
-// The bytes of the map, ascending, and how many. Each turn takes one out.
+// The bytes of the map, ascending, and how many.
 #[no_mangle]
 pub extern "C" fn leaf_map_walk(map: &[u64], out: &mut [u8]) -> u64 {
     if map.len() != 4 {
@@ -128,23 +128,7 @@ pub extern "C" fn leaf_map_walk(map: &[u64], out: &mut [u8]) -> u64 {
     if out.len() < 256 {
         return REFUSED;
     }
-    let mut m = TinyBitvector::load(map);
-    let mut turns: usize = 0;
-    while turns < 256 {
-        let f = m.pop_first();
-        m = f.rest;
-        let at = f.at;
-        match at {
-            Next::At(i) => {
-                out[turns] = (i % 256) as u8;
-                turns += 1;
-            }
-            Next::Nothing => {
-                return turns as u64;
-            }
-        }
-    }
-    turns as u64
+    TinyBitvector::load(map).walk(out) as u64
 }
 
 // The least byte of the map at or past `from`; 256 if there is none.

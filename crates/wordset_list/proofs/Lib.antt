@@ -1,0 +1,5 @@
+pub mod Judging
+pub mod Answering
+pub mod Carrying
+pub mod Telling
+pub mod TwoRuns
