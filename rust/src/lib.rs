@@ -4,27 +4,23 @@
 //! refusals names and the numbers types. Nothing here is `unsafe` to use.
 //!
 //! ```
-//! use brothowl::{Card, Fields, Folder, Frame, Key, Kind, Rollover};
+//! use brothowl::{Card, Fields, Folder, Frame, Key, Kind, Numbers, Rollover, Set};
 //!
-//! let key = Key::pack(Fields {
-//!     card: Card(5),
-//!     rollover: Rollover(0),
-//!     folder: Folder(100),
-//!     frame: Frame(1),
-//!     kind: Kind::Raw,
-//! })?;
-//! assert_eq!(key.word(), 5 * (1 << 28) + 3_276_802);
-//! assert_eq!(key.fields().frame, Frame(1));
+//! let raw = Fields { card: Card(5), rollover: Rollover(0), folder: Folder(100), frame: Frame(1), kind: Kind::Raw };
+//! let sidecar = Fields { kind: Kind::Sidecar, ..raw };
+//! let mut cached = Set::new(Numbers::for_keys(4, 8))?; // room for four cards and eight trie nodes
+//! assert!(cached.insert(Key::pack(raw)?.word())?);
+//! assert!(!cached.remove(Key::pack(sidecar)?.word())?); // never cached: nothing is removed
+//! assert_eq!(cached.len(), 1);
 //! # Ok::<(), brothowl::Refusal>(())
 //! ```
 //!
 //! | module | what |
 //! |---|---|
+//! | [`set`] | a set over owned or lent memory: insert, remove, contains, lists, iterator, operators |
 //! | [`key`] | preview keys: pack and unpack |
-//! | [`region`] | the numbers of a region, and a fresh one |
+//! | [`region`] | the entries as they stand, over slices |
 //! | [`refusal`] | the refusals, by name |
-//!
-//! The list, combination and walk entries join `region` when the library has them.
 #![warn(missing_docs)]
 #![deny(unsafe_op_in_unsafe_fn)]
 
@@ -32,7 +28,9 @@ mod ffi;
 pub mod key;
 pub mod refusal;
 pub mod region;
+pub mod set;
 
 pub use key::{Card, Fields, Folder, Frame, Key, Kind, Rollover};
 pub use refusal::{Field, Refusal};
-pub use region::{make, Numbers, Region};
+pub use region::{all_members, check, combine, make, run, walk, Numbers, Operation};
+pub use set::{Command, Iter, Set, Stopped};

@@ -92,6 +92,16 @@ impl Refusal {
         })
     }
 
+    /// The same, of a list of which so many words were passed before.
+    pub(crate) fn later(self, before: u64) -> Refusal {
+        match self {
+            Refusal::UnknownCode { place } => Refusal::UnknownCode { place: place + before },
+            Refusal::WordTooLarge { place } => Refusal::WordTooLarge { place: place + before },
+            Refusal::NoRoom { place } => Refusal::NoRoom { place: place + before },
+            other => other,
+        }
+    }
+
     /// `value`, unless the verdict refuses.
     pub(crate) fn unless<T>(number: u64, place: u64, value: T) -> Result<T, Refusal> {
         match Refusal::of(number, place) {

@@ -1,4 +1,4 @@
-//! Regions: the memory that a set lives in.
+//! Regions: the memory that a set lives in, and the entries as they stand: slices in, a refusal or an answer out.
 use crate::ffi;
 use crate::refusal::Refusal;
 
@@ -57,28 +57,73 @@ pub fn make(region: &mut [u64], numbers: Numbers) -> Result<(), Refusal> {
     Refusal::unless(v.number, v.place, ())
 }
 
-/// A region that this value owns.
-#[derive(Debug, Clone, PartialEq, Eq)]
-pub struct Region {
-    words: Vec<u64>,
+/// Whether a slice is a well-formed region.
+///
+/// ```
+/// use brothowl::{check, make, Numbers, Refusal};
+///
+/// let mut words = vec![0; 6320];
+/// assert_eq!(check(&words), Err(Refusal::Malformed { place: 0 }));
+/// make(&mut words, Numbers::for_keys(4, 8))?;
+/// assert_eq!(check(&words), Ok(()));
+/// # Ok::<(), Refusal>(())
+/// ```
+pub fn check(region: &[u64]) -> Result<(), Refusal> {
+    let v = ffi::check(region);
+    Refusal::unless(v.number, v.place, ())
 }
 
-impl Region {
-    /// A fresh region.
-    ///
-    /// ```
-    /// let region = brothowl::Region::new(brothowl::Numbers::for_keys(4, 8))?;
-    /// assert_eq!(region.words().len(), 6320);
-    /// # Ok::<(), brothowl::Refusal>(())
-    /// ```
-    pub fn new(numbers: Numbers) -> Result<Region, Refusal> {
-        let mut words = vec![0; numbers.words().ok_or(Refusal::OutOfRange)?];
-        make(&mut words, numbers)?;
-        Ok(Region { words })
-    }
+/// Runs a command list on a region: one code (0 lookup, 1 insert, 2 remove), one word and one answer byte each.
+/// Lookup and remove answer 1 if the word was a member, insert 1 if it was not.
+///
+/// With [`Refusal::NoRoom`] the earlier commands are done and answered; every other refusal changes nothing.
+pub fn run(region: &mut [u64], codes: &[u8], words: &[u64], answers: &mut [u8]) -> Result<(), Refusal> {
+    let v = ffi::list(region, codes, words, answers);
+    Refusal::unless(v.number, v.place, ())
+}
 
-    /// Its words.
-    pub fn words(&self) -> &[u64] {
-        &self.words
+/// Whether all words of a list, of at most 4,096, are members: yes for an empty list.
+pub fn all_members(region: &[u64], words: &[u64]) -> Result<bool, Refusal> {
+    let v = ffi::all_members(region, words);
+    Refusal::unless(v.number, v.place, v.all == 1)
+}
+
+/// Writes the words of a region from the one with number `start` on, as far as the output reaches, and answers how many.
+/// Prefixes ascend; under a prefix, words stand in stored order up to 1,024 and ascending above.
+pub fn walk(region: &[u64], start: u64, output: &mut [u64]) -> Result<usize, Refusal> {
+    let v = ffi::walk(region, start, output);
+    Refusal::unless(v.number, v.place, v.written as usize)
+}
+
+/// A combination of two sets.
+#[derive(Debug, Clone, Copy, PartialEq, Eq, Hash)]
+pub enum Operation {
+    /// Words of a or b.
+    Or,
+    /// Words of both.
+    And,
+    /// Words of a that b does not have.
+    Minus,
+    /// Words of one alone.
+    Xor,
+}
+
+impl Operation {
+    pub(crate) fn code(self) -> u64 {
+        match self {
+            Operation::Or => 0,
+            Operation::And => 1,
+            Operation::Minus => 2,
+            Operation::Xor => 3,
+        }
     }
+}
+
+/// Combines two sets into a third. All three must be well formed and agree in P and S; the destination keeps its own
+/// containers and nodes, and its members are replaced. With [`Refusal::NoRoom`] it is left empty.
+///
+/// The borrows say what the library asks: a and b may be one region, the destination is another.
+pub fn combine(operation: Operation, a: &[u64], b: &[u64], destination: &mut [u64]) -> Result<(), Refusal> {
+    let v = ffi::combine(operation.code(), a, b, destination);
+    Refusal::unless(v.number, v.place, ())
 }

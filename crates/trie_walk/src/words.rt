@@ -21,7 +21,7 @@ fn write(w: u64, base: u64, out: &mut [u64], at: usize) -> usize
         let k = word::lowest(w);
         out[at] = base + k as u64;
         at += 1;
-        w = word::without(w, k);
+        w = word::without_lowest(w);
     }
     at
 }

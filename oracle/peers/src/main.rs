@@ -1,22 +1,25 @@
-//! The bench: the Rust, Judy1 and Roaring on the same words, one table.
+//! The bench: the port, the Rust, Judy1 and Roaring on the same words, one table; the check and the growth of the costs behind it.
 #![allow(incomplete_features)]
 #![feature(generic_const_exprs)]
 
+use brothowl::{Operation, Set};
 use cbl_original::wordset::WordSet;
-use driver::Numbers;
+use driver::{grouped, Numbers};
 use std::collections::BTreeSet;
 use std::ffi::c_void;
+use std::fmt::Write as _;
 use std::hint::black_box;
 use std::ptr::null_mut;
 use std::time::Instant;
 
-/// A set that can be timed.
+/// A set that can be timed. Times are nanoseconds for the whole call.
 trait Peer: Sized {
     fn new() -> Self;
     fn contains(&self, word: u64) -> bool;
     fn insert(&mut self, word: u64) -> bool;
     fn remove(&mut self, word: u64) -> bool;
     fn count(&self) -> u64;
+    fn words(&self, out: &mut [u64]) -> usize;
     fn combine(&mut self, code: i32, other: &mut Self) -> Self;
 }
 
@@ -38,6 +41,14 @@ where
     }
     fn count(&self) -> u64 {
         WordSet::count(self) as u64
+    }
+    fn words(&self, out: &mut [u64]) -> usize {
+        let mut written = 0;
+        for (word, place) in self.iter::<u64>().zip(out) {
+            *place = word;
+            written += 1;
+        }
+        written
     }
     fn combine(&mut self, code: i32, other: &mut Self) -> Self {
         match code {
@@ -94,6 +105,14 @@ impl Peer for Judy {
     fn count(&self) -> u64 {
         unsafe { Judy1Count(self.0, 0, usize::MAX, null_mut()) as u64 }
     }
+    fn words(&self, out: &mut [u64]) -> usize {
+        let mut written = 0;
+        self.each(|word| {
+            out[written] = word;
+            written += 1;
+        });
+        written
+    }
     /// Judy has no combinations: both sides are walked and the result is set word by word.
     fn combine(&mut self, code: i32, other: &mut Self) -> Self {
         let mut result = Judy::new();
@@ -118,7 +137,7 @@ impl Peer for Judy {
 }
 
 macro_rules! roaring {
-    ($type:ident, $new:ident, $free:ident, $contains:ident, $insert:ident, $remove:ident, $count:ident, $combine:ident) => {
+    ($type:ident, $new:ident, $free:ident, $contains:ident, $insert:ident, $remove:ident, $count:ident, $walk:ident, $combine:ident) => {
         unsafe extern "C" {
             fn $new() -> *mut c_void;
             fn $free(set: *mut c_void);
@@ -126,6 +145,7 @@ macro_rules! roaring {
             fn $insert(set: *mut c_void, word: u64) -> bool;
             fn $remove(set: *mut c_void, word: u64) -> bool;
             fn $count(set: *const c_void) -> u64;
+            fn $walk(set: *const c_void, out: *mut u64) -> u64;
             fn $combine(code: i32, left: *const c_void, right: *const c_void) -> *mut c_void;
         }
 
@@ -153,6 +173,10 @@ macro_rules! roaring {
             fn count(&self) -> u64 {
                 unsafe { $count(self.0) }
             }
+            fn words(&self, out: &mut [u64]) -> usize {
+                assert!(self.count() <= out.len() as u64);
+                unsafe { $walk(self.0, out.as_mut_ptr()) as usize }
+            }
             fn combine(&mut self, code: i32, other: &mut Self) -> Self {
                 $type(unsafe { $combine(code, self.0, other.0) })
             }
@@ -160,17 +184,17 @@ macro_rules! roaring {
     };
 }
 
-roaring!(Roaring32, roaring32_new, roaring32_free, roaring32_contains, roaring32_insert, roaring32_remove, roaring32_count, roaring32_combine);
-roaring!(Roaring64, roaring64_new, roaring64_free, roaring64_contains, roaring64_insert, roaring64_remove, roaring64_count, roaring64_combine);
+roaring!(Roaring32, roaring32_new, roaring32_free, roaring32_contains, roaring32_insert, roaring32_remove, roaring32_count, roaring32_walk, roaring32_combine);
+roaring!(Roaring64, roaring64_new, roaring64_free, roaring64_contains, roaring64_insert, roaring64_remove, roaring64_count, roaring64_walk, roaring64_combine);
 
 // ---------------------------------------------------------------- the clock
 
-const ROUNDS: usize = 9;
+const ROUNDS: usize = 5;
 const PASSES: usize = 3;
 
-/// Takes the peers in turn, several times, so that a busy spell does not hit one of them alone.
-fn in_turn<const N: usize>(mut peers: [&mut dyn FnMut() -> [f64; N]; 3]) -> [[f64; N]; 3] {
-    let mut best = [[f64::INFINITY; N]; 3];
+/// Takes the four in turn, several times, so that a busy spell does not hit one of them alone.
+fn in_turn<const N: usize>(mut peers: [&mut dyn FnMut() -> [f64; N]; 4]) -> [[f64; N]; 4] {
+    let mut best = [[f64::INFINITY; N]; 4];
     for _ in 0..PASSES {
         for (peer, best) in peers.iter_mut().zip(&mut best) {
             for (time, best) in peer().into_iter().zip(best) {
@@ -197,54 +221,130 @@ fn clocked<R>(work: impl FnOnce() -> R) -> (f64, R) {
 /// Words that are in, words that are not, and new ones that come and go.
 struct Shape {
     name: &'static str,
-    /// Equal sets side by side, where one is too small for the clock.
-    sets: usize,
+    /// P and S.
+    sizes: (u64, u64),
     members: Vec<u64>,
     absent: Vec<u64>,
     new: Vec<u64>,
 }
 
-const STEPS: [&str; 4] = ["lookup, member", "lookup, absent", "insert", "remove"];
+const STEPS: [&str; 4] = ["lookup, member", "lookup, absent", "insert + remove", "walk"];
 
-/// The four steps of one peer, nanoseconds an operation.
-fn steps<T: Peer>(shape: &Shape) -> [f64; 4] {
-    let make = || {
-        let mut set = T::new();
-        shape.members.iter().for_each(|&word| assert!(set.insert(word)));
-        set
-    };
-    let mut sets: Vec<T> = (0..shape.sets).map(|_| make()).collect();
-    let lookups = |sets: &Vec<T>, words: &Vec<u64>, expected: usize| {
-        least(|| {
-            let (time, found) = clocked(|| {
-                let one = |set: &T| words.iter().filter(|&&word| set.contains(black_box(word))).count();
-                sets.iter().map(one).sum::<usize>()
-            });
-            assert_eq!(found, expected * sets.len(), "a wrong lookup");
-            time / (sets.len() * words.len()) as f64
-        })
-    };
-    let member = lookups(&sets, &shape.members, shape.members.len());
-    let absent = lookups(&sets, &shape.absent, 0);
-    let (mut insert, mut remove) = (f64::INFINITY, f64::INFINITY);
-    let operations = (shape.sets * shape.new.len()) as f64;
-    for _ in 0..ROUNDS {
-        for (inserting, best) in [(true, &mut insert), (false, &mut remove)] {
-            let (time, answered) = clocked(|| {
-                let mut answered = 0;
-                for set in &mut sets {
-                    for &word in &shape.new {
-                        answered += if inserting { set.insert(word) } else { set.remove(word) } as usize;
-                    }
-                }
-                answered
-            });
-            assert_eq!(answered as f64, operations, "a wrong insert or remove");
-            *best = best.min(time / operations);
+/// Commands of a timed row: the clock is read twice for so many of them.
+const MANY: usize = 400_000;
+
+/// The words over and over, so that there are about MANY.
+fn repeated(words: &[u64]) -> Vec<u64> {
+    words.repeat((MANY / words.len()).max(1))
+}
+
+/// New words inserted and then removed, in lists of at most 2,048 each, over and over.
+fn pairs(new: &[u64]) -> (Vec<u8>, Vec<u64>) {
+    let (mut codes, mut words) = (Vec::new(), Vec::new());
+    for list in new.chunks(2048) {
+        for code in [1, 2] {
+            codes.extend(list.iter().map(|_| code));
+            words.extend(list);
         }
     }
-    assert!(sets.iter().all(|set| set.count() == shape.members.len() as u64));
-    [member, absent, insert, remove]
+    let times = (MANY / words.len()).max(1);
+    (codes.repeat(times), words.repeat(times))
+}
+
+/// The four steps of one peer, nanoseconds an operation; insert + remove is the pair, walk is for a word.
+fn steps<T: Peer>(shape: &Shape) -> [f64; 4] {
+    let mut set = T::new();
+    shape.members.iter().for_each(|&word| assert!(set.insert(word)));
+    let lookups = |set: &T, words: &[u64], expected: usize| {
+        let words = repeated(words);
+        least(|| {
+            let (time, found) = clocked(|| words.iter().filter(|&&word| set.contains(black_box(word))).count());
+            assert_eq!(found, expected * words.len(), "a wrong lookup");
+            time / words.len() as f64
+        })
+    };
+    let member = lookups(&set, &shape.members, 1);
+    let absent = lookups(&set, &shape.absent, 0);
+    let (codes, words) = pairs(&shape.new);
+    let pair = least(|| {
+        let (time, answered) = clocked(|| {
+            let one = |(&code, &word): (&u8, &u64)| if code == 1 { set.insert(word) } else { set.remove(word) };
+            codes.iter().zip(&words).filter(|&pair| one(pair)).count()
+        });
+        assert_eq!(answered, words.len(), "a wrong insert or remove");
+        time / (words.len() / 2) as f64
+    });
+    let mut out = vec![0; shape.members.len()];
+    let times = (MANY / 4 / out.len()).max(1);
+    let walk = least(|| {
+        let (time, written) = clocked(|| (0..times).map(|_| set.words(black_box(&mut out))).sum::<usize>());
+        assert_eq!(written, times * out.len(), "a wrong walk");
+        time / written as f64
+    });
+    assert_eq!(set.count(), shape.members.len() as u64);
+    [member, absent, pair, walk]
+}
+
+/// The nodes that a set's tries need, by the definition of document 01.
+fn nodes((p, s): (u64, u64), words: &[u64]) -> u64 {
+    let b = s.div_ceil(8);
+    let mut by: std::collections::BTreeMap<u64, Vec<u64>> = Default::default();
+    words.iter().for_each(|word| by.entry(word >> s).or_default().push(word & ((1 << s) - 1)));
+    assert!(by.keys().all(|prefix| prefix >> p == 0));
+    let strings = |suffixes: &Vec<u64>, len: u64| suffixes.iter().map(|x| x >> (8 * (b - len))).collect::<BTreeSet<_>>().len() as u64;
+    by.values().filter(|suffixes| suffixes.len() > 1024).map(|suffixes| (0..b).map(|len| strings(suffixes, len)).sum::<u64>()).sum()
+}
+
+/// A set of the port with room for exactly these words, holding some of them.
+fn ported(sizes: (u64, u64), all: &[u64], members: &[u64]) -> Set {
+    let containers = all.iter().map(|word| word >> sizes.1).collect::<BTreeSet<_>>().len() as u64;
+    let numbers = brothowl::Numbers { p: sizes.0, s: sizes.1, containers: containers.max(1), nodes: nodes(sizes, all) };
+    let mut set = Set::new(numbers).expect("good numbers");
+    // by one call: the exported list takes 4,096 and checks each time
+    let mut answers = vec![0; members.len()];
+    let region = set.into_region();
+    let mut region = region;
+    assert_eq!(port::set_run(&mut region, &vec![1; members.len()], members, &mut answers), members.len() as u64);
+    assert!(answers.iter().all(|&answer| answer == 1));
+    set = Set::over(region).expect("well formed");
+    set
+}
+
+/// The least time of the check.
+fn check(region: &[u64]) -> f64 {
+    least(|| clocked(|| assert!(brothowl::check(black_box(region)).is_ok())).0)
+}
+
+/// The four steps of the port. A call checks its region once, and the least time of a call with nothing to do is taken off.
+fn port_steps(shape: &Shape) -> [f64; 4] {
+    let all: Vec<u64> = shape.members.iter().chain(&shape.new).copied().collect();
+    let mut region = ported(shape.sizes, &all, &shape.members).into_region();
+    let idle = least(|| clocked(|| port::set_run(black_box(&mut region), &[], &[], &mut [])).0);
+    let mut answers = vec![0; 2 * MANY];
+    let mut run = |codes: &[u8], words: &[u64], expected: u8| {
+        let answers = &mut answers[..words.len()];
+        least(|| {
+            let (time, done) = clocked(|| port::set_run(black_box(&mut region), codes, words, answers));
+            assert_eq!(done, words.len() as u64);
+            assert!(answers.iter().all(|&answer| answer == expected), "a wrong answer");
+            (time - idle).max(0.0) / words.len() as f64
+        })
+    };
+    let members = repeated(&shape.members);
+    let member = run(&vec![0; members.len()], &members, 1);
+    let absent = repeated(&shape.absent);
+    let absent = run(&vec![0; absent.len()], &absent, 0);
+    let (codes, words) = pairs(&shape.new);
+    let pair = 2.0 * run(&codes, &words, 1);
+    let mut out = vec![0; shape.members.len()];
+    let times = (MANY / 4 / out.len()).max(1);
+    let none = least(|| clocked(|| port::set_walk(black_box(&region), 0, &mut out)).0);
+    let walk = least(|| {
+        let (time, written) = clocked(|| port::set_walk(black_box(&region), times as u64, &mut out));
+        assert_eq!(written as usize, times * out.len());
+        (time - none).max(0.0) / written as f64
+    });
+    [member, absent, pair, walk]
 }
 
 /// One insert and one remove that cross the threshold, nanoseconds for the pair.
@@ -252,9 +352,22 @@ fn crossing<T: Peer>(members: &[u64], new: u64) -> f64 {
     let mut set = T::new();
     members.iter().for_each(|&word| assert!(set.insert(word)));
     least(|| {
-        let (time, answers) = clocked(|| (0..16).filter(|_| set.insert(new) && set.remove(new)).count());
-        assert_eq!(answers, 16);
-        time / 16.0
+        let (time, answers) = clocked(|| (0..64).filter(|_| set.insert(new) && set.remove(new)).count());
+        assert_eq!(answers, 64);
+        time / 64.0
+    })
+}
+
+fn port_crossing(members: &[u64], new: u64) -> f64 {
+    let all: Vec<u64> = members.iter().copied().chain([new]).collect();
+    let mut region = ported((12, 28), &all, members).into_region();
+    let idle = least(|| clocked(|| port::set_run(black_box(&mut region), &[], &[], &mut [])).0);
+    let (codes, words) = ([1, 2].repeat(64), vec![new; 128]);
+    let mut answers = vec![0; 128];
+    least(|| {
+        let (time, done) = clocked(|| port::set_run(&mut region, &codes, &words, &mut answers));
+        assert!(done == 128 && answers.iter().all(|&answer| answer == 1));
+        (time - idle).max(0.0) / 64.0
     })
 }
 
@@ -271,6 +384,24 @@ fn combinations<T: Peer>(a: &[u64], b: &[u64], expected: [u64; 4]) -> [f64; 4] {
             let (time, result) = clocked(|| left.combine(code as i32, &mut right));
             assert_eq!(result.count(), expected[code], "a wrong combination");
             time
+        })
+    })
+}
+
+const OPERATIONS: [Operation; 4] = [Operation::Or, Operation::And, Operation::Minus, Operation::Xor];
+
+/// The port's: the checks of the three regions, timed alone, are taken off.
+fn port_combinations(a: &[u64], b: &[u64], all: &[u64], expected: [u64; 4]) -> [f64; 4] {
+    let (left, right) = (ported((12, 28), a, a), ported((12, 28), b, b));
+    let checks = check(left.region()) + check(right.region());
+    std::array::from_fn(|code| {
+        let mut destination = ported((12, 28), all, &[]);
+        least(|| {
+            // as it was left by the round before, like a region that is used again
+            let third = check(destination.region());
+            let (time, told) = clocked(|| destination.combine(OPERATIONS[code], &left, &right));
+            assert_eq!((told, destination.len()), (Ok(()), expected[code]), "a wrong combination");
+            (time - checks - third).max(0.0)
         })
     })
 }
@@ -296,63 +427,109 @@ fn shuffled(numbers: &mut Numbers, mut words: Vec<u64>) -> Vec<u64> {
 }
 
 /// Members, absent and new words cut from one random row.
-fn random_shape(numbers: &mut Numbers, name: &'static str, sets: usize, members: usize, new: usize) -> Shape {
+fn random_shape(numbers: &mut Numbers, name: &'static str, members: usize, new: usize) -> Shape {
     let mut row = random(numbers, members + members.min(20000) + new, |numbers| numbers.below(1 << 28));
     let new = row.split_off(row.len() - new);
     let absent = row.split_off(members);
-    Shape { name, sets, members: row, absent, new }
+    Shape { name, sizes: (12, 28), members: row, absent, new }
 }
 
 /// Members are even suffixes in a row; absent and new ones are odd, among them.
-fn even_shape(numbers: &mut Numbers, name: &'static str, sets: usize, members: u64, new: u64) -> Shape {
+fn even_shape(numbers: &mut Numbers, name: &'static str, members: u64, new: u64) -> Shape {
     let odd = shuffled(numbers, (0..members).map(|place| 2 * place + 1).collect());
     Shape {
         name,
-        sets,
+        sizes: (12, 28),
         members: shuffled(numbers, (0..members).map(|place| 2 * place).collect()),
         absent: odd.iter().copied().skip(new as usize).take(20000).collect(),
         new: odd.into_iter().take(new as usize).collect(),
     }
 }
 
-// ---------------------------------------------------------------- the table
+// ---------------------------------------------------------------- the table and its picture
 
-fn row(name: &str, step: &str, unit: &str, scale: f64, rust: f64, judy: f64, roaring: f64) {
-    println!(
-        "{name:<34} | {step:<15} | {unit} | {:>8} | {:>9.1} | {:>9.1} | {:>9.1} | {:>9} | {:>10.2} | {:>12.2}",
-        "open",
-        rust / scale,
-        judy / scale,
-        roaring / scale,
-        "open",
-        rust / judy,
-        rust / roaring,
-    );
+/// A row that was measured.
+struct Row {
+    shape: String,
+    step: &'static str,
+    unit: &'static str,
+    /// The port, the Rust, Judy1, Roaring.
+    times: [f64; 4],
+    /// The port's time over the Rust's is asked to be at most this.
+    most: f64,
+}
+
+#[derive(Default)]
+struct Table {
+    rows: Vec<Row>,
+}
+
+impl Table {
+    fn row(&mut self, shape: &str, step: &'static str, unit: &'static str, scale: f64, times: [f64; 4], most: f64) {
+        let [port, rust, judy, roaring] = times.map(|time| time / scale);
+        println!(
+            "{shape:<33} | {step:<15} | {unit} | {port:>9.1} | {rust:>9.1} | {judy:>9.1} | {roaring:>9.1} | {:>9.2} | {:>7.2} | {:>10.2} | {:>12.2}",
+            port / rust, most, port / judy, port / roaring,
+        );
+        self.rows.push(Row { shape: shape.into(), step, unit, times: [port, rust, judy, roaring], most });
+    }
+
+    /// One bar a row: the port's time over the Rust's, on a scale where equal lengths are equal factors.
+    fn picture(&self) -> String {
+        let (left, wide, high, top) = (330.0, 520.0, 17.0, 46.0);
+        let at = |ratio: f64| left + wide * (ratio.clamp(0.02, 16.0) / 0.02).ln() / (16.0f64 / 0.02).ln();
+        let tall = top + high * self.rows.len() as f64 + 10.0;
+        let mut svg = String::new();
+        let _ = writeln!(svg, "<svg xmlns=\"http://www.w3.org/2000/svg\" width=\"920\" height=\"{tall}\" font-family=\"sans-serif\" font-size=\"11\">");
+        let _ = writeln!(svg, "<rect width=\"100%\" height=\"100%\" fill=\"white\"/>");
+        let _ = writeln!(svg, "<text x=\"8\" y=\"18\" font-size=\"13\">The port's time over the Rust's, by oracle/bench. Left of 1 the port is faster; the mark is what is asked at most.</text>");
+        for ratio in [0.02, 0.05, 0.1, 0.2, 0.5, 1.0, 2.0, 5.0, 10.0] {
+            let x = at(ratio);
+            let color = if ratio == 1.0 { "#444" } else { "#ddd" };
+            let _ = writeln!(svg, "<line x1=\"{x:.1}\" x2=\"{x:.1}\" y1=\"{}\" y2=\"{:.1}\" stroke=\"{color}\"/><text x=\"{x:.1}\" y=\"{}\" text-anchor=\"middle\" fill=\"#666\">{ratio}</text>", top - 6.0, tall - 6.0, top - 10.0);
+        }
+        for (place, row) in self.rows.iter().enumerate() {
+            let y = top + high * place as f64;
+            let ratio = row.times[0] / row.times[1];
+            let (x, one, mark) = (at(ratio), at(1.0), at(row.most));
+            let color = if ratio <= row.most { "#2a7f4f" } else { "#c2452d" };
+            let _ = writeln!(svg, "<text x=\"{}\" y=\"{:.1}\" text-anchor=\"end\">{}, {}</text>", left - 8.0, y + 12.0, row.shape, row.step);
+            let _ = writeln!(svg, "<rect x=\"{:.1}\" y=\"{:.1}\" width=\"{:.1}\" height=\"{}\" fill=\"{color}\"/>", x.min(one), y + 3.0, (x - one).abs().max(1.0), high - 6.0);
+            let _ = writeln!(svg, "<line x1=\"{mark:.1}\" x2=\"{mark:.1}\" y1=\"{:.1}\" y2=\"{:.1}\" stroke=\"black\" stroke-width=\"2\"/>", y + 1.0, y + high - 1.0);
+            let _ = writeln!(svg, "<text x=\"{:.1}\" y=\"{:.1}\" fill=\"#333\">{ratio:.2}</text>", x.max(one).max(mark) + 5.0, y + 12.0);
+        }
+        svg.push_str("</svg>\n");
+        svg
+    }
 }
 
 fn main() {
     let mut numbers = Numbers(2026);
+    let mut table = Table::default();
     println!(
-        "{:<34} | {:<15} | {} | {:>8} | {:>9} | {:>9} | {:>9} | {:>9} | {:>10} | {:>12}",
-        "shape", "operation", "  ", "the port", "the Rust", "Judy1", "Roaring", "port/Rust", "Rust/Judy1", "Rust/Roaring"
+        "{:<33} | {:<15} | {} | {:>9} | {:>9} | {:>9} | {:>9} | {:>9} | {:>7} | {:>10} | {:>12}",
+        "shape", "operation", "  ", "the port", "the Rust", "Judy1", "Roaring", "port/Rust", "at most", "port/Judy1", "port/Roaring"
     );
 
     let shapes = [
-        random_shape(&mut numbers, "vector of 10", 200, 10, 1),
-        random_shape(&mut numbers, "vector of 1,000", 4, 1000, 20),
-        random_shape(&mut numbers, "trie of 2,000, random", 1, 2000, 200),
-        even_shape(&mut numbers, "trie of 2,000, even", 1, 2000, 200),
-        random_shape(&mut numbers, "trie of 100,000, random", 1, 100000, 5000),
-        even_shape(&mut numbers, "trie of 100,000, even", 1, 100000, 5000),
+        random_shape(&mut numbers, "vector of 10", 10, 1),
+        random_shape(&mut numbers, "vector of 1,000", 1000, 20),
+        random_shape(&mut numbers, "trie of 2,000, random", 2000, 200),
+        even_shape(&mut numbers, "trie of 2,000, even", 2000, 200),
+        random_shape(&mut numbers, "trie of 100,000, random", 100000, 5000),
+        even_shape(&mut numbers, "trie of 100,000, even", 100000, 5000),
     ];
     for shape in &shapes {
-        let [rust, judy, roaring] = in_turn([
+        let times = in_turn([
+            &mut || port_steps(shape),
             &mut || steps::<WordSet<12, 28>>(shape),
             &mut || steps::<Judy>(shape),
             &mut || steps::<Roaring32>(shape),
         ]);
-        for (place, step) in STEPS.iter().enumerate() {
-            row(shape.name, step, "ns", 1.0, rust[place], judy[place], roaring[place]);
+        let lookup = if shape.name.starts_with("trie") { 0.6 } else { 1.0 };
+        for (place, step) in STEPS.into_iter().enumerate() {
+            let most = if place < 2 { lookup } else { 1.0 };
+            table.row(shape.name, step, "ns", 1.0, times.map(|steps| steps[place]), most);
         }
     }
 
@@ -368,7 +545,7 @@ fn main() {
     let (old, new) = prefixes.split_at(60000);
     let mut shape = Shape {
         name: "60,000 prefixes of 3, old prefix",
-        sets: 1,
+        sizes: (24, 40),
         members: under(old, 3),
         absent: under(&old[..20000], 1),
         new: under(&old[20000..22000], 1),
@@ -379,13 +556,14 @@ fn main() {
             shape.absent = under(new, 1);
             shape.new = under(new, 1);
         }
-        let [rust, judy, roaring] = in_turn([
+        let times = in_turn([
+            &mut || port_steps(&shape),
             &mut || steps::<WordSet<24, 40>>(&shape),
             &mut || steps::<Judy>(&shape),
             &mut || steps::<Roaring64>(&shape),
         ]);
-        for (place, step) in STEPS.iter().enumerate().skip(fresh as usize) {
-            row(shape.name, step, "ns", 1.0, rust[place], judy[place], roaring[place]);
+        for (place, step) in STEPS.into_iter().enumerate().skip(fresh as usize).take(4 - 2 * fresh as usize) {
+            table.row(shape.name, step, "ns", 1.0, times.map(|steps| steps[place]), 1.0);
         }
     }
 
@@ -395,12 +573,13 @@ fn main() {
         ("1,024 to 1,025 and back, random", &random_members, 1 << 27),
         ("1,024 to 1,025 and back, even", &even_members, 2048),
     ] {
-        let [[rust], [judy], [roaring]] = in_turn([
+        let times = in_turn([
+            &mut || [port_crossing(members, new)],
             &mut || [crossing::<WordSet<12, 28>>(members, new)],
             &mut || [crossing::<Judy>(members, new)],
             &mut || [crossing::<Roaring32>(members, new)],
         ]);
-        row(name, "insert, remove", "ns", 1.0, rust, judy, roaring);
+        table.row(name, "insert + remove", "ns", 1.0, times.map(|[time]| time), 2.0);
     }
 
     for (name, prefixes) in [("two of 100,000, one prefix", 1), ("two of 100,000, 64 tries", 64), ("two of 100,000, 4,096 vectors", 4096)] {
@@ -408,7 +587,8 @@ fn main() {
         let words = random(&mut numbers, 150000, |numbers| (numbers.below(prefixes) << 28) + numbers.below(1 << 28));
         let (a, b) = (&words[..100000], &words[50000..]);
         let expected: [u64; 4] = [150000, 50000, 50000, 100000];
-        let [rust, judy, roaring] = in_turn([
+        let times = in_turn([
+            &mut || port_combinations(a, b, &words, expected),
             &mut || combinations::<WordSet<12, 28>>(a, b, expected),
             &mut || combinations::<Judy>(a, b, expected),
             &mut || match prefixes {
@@ -416,8 +596,97 @@ fn main() {
                 _ => combinations::<Roaring64>(a, b, expected),
             },
         ]);
-        for (code, step) in driver::COMBINATIONS.iter().enumerate() {
-            row(name, step, "us", 1000.0, rust[code], judy[code], roaring[code]);
+        for (code, step) in driver::COMBINATIONS.into_iter().enumerate() {
+            table.row(name, step, "us", 1000.0, times.map(|combined| combined[code]), 1.0);
         }
     }
+
+    println!();
+    println!("The check, and a list of 4,096 lookups through the exported entry, which checks first");
+    println!("{:<33} | {:>9} | {:>10} | {:>9} | {:>7} | {:>12} | {:>14}", "shape", "check, us", "words seen", "memcpy us", "ratio", "list, us", "the check's part");
+    for shape in shapes.iter().chain([&shape]) {
+        let mut region = ported(shape.sizes, &shape.members, &shape.members).into_region();
+        let (time, seen, copied) = (check(&region), looked_at(&region), copy(looked_at(&region)));
+        let words: Vec<u64> = shape.members.iter().cycle().take(4096).copied().collect();
+        let mut answers = vec![0; 4096];
+        let list = least(|| clocked(|| assert!(brothowl::run(&mut region, &[0; 4096], &words, &mut answers).is_ok())).0);
+        println!(
+            "{:<33} | {:>9.1} | {:>10} | {:>9.1} | {:>7.2} | {:>12.1} | {:>13.0}%",
+            shape.name, time / 1000.0, grouped(seen), copied / 1000.0, time / copied, list / 1000.0, 100.0 * (time / list).min(1.0),
+        );
+    }
+
+    println!();
+    println!("How a lookup's cost grows, ns for one, the check apart");
+    for (what, rows) in growth(&mut numbers) {
+        println!("{what:<28} | {}", rows.iter().map(|(at, time)| format!("{}: {time:.1}", grouped(*at))).collect::<Vec<_>>().join(" | "));
+    }
+    println!();
+    println!("What a list costs by its length, us for the call through the exported entry, a trie of 2,000, random");
+    let shape = &shapes[2];
+    let mut region = ported(shape.sizes, &shape.members, &shape.members).into_region();
+    let by: Vec<String> = [0usize, 1, 16, 256, 4096]
+        .iter()
+        .map(|&n| {
+            let words: Vec<u64> = shape.members.iter().cycle().take(n).copied().collect();
+            let (codes, mut answers) = (vec![0; n], vec![0; n]);
+            let time = least(|| clocked(|| assert!(brothowl::run(&mut region, &codes, &words, &mut answers).is_ok())).0);
+            format!("{}: {:.1}", grouped(n), time / 1000.0)
+        })
+        .collect();
+    println!("{:<28} | {}", "commands", by.join(" | "));
+
+    if let Some(path) = std::env::args().nth(1) {
+        std::fs::write(&path, table.picture()).expect("the picture can be written");
+    }
+}
+
+/// How many words of a well-formed region document 01 says are looked at.
+fn looked_at(l: &[u64]) -> usize {
+    let (c, n, k, used, s) = (l[3], l[4], l[5], l[6], l[2]);
+    let b = s.div_ceil(8);
+    let at = |area: usize, place: u64| l[l[8 + area] as usize + place as usize];
+    let mut seen = 16 + (l[9] - l[8]) + k + (c - k) + (n - used);
+    for slot in 0..c {
+        seen += [2, 3, 4][at(3, 4 * slot) as usize];
+        if at(3, 4 * slot) == 1 {
+            seen += at(3, 4 * slot + 2);
+        }
+    }
+    for node in 0..n {
+        let level = at(6, 264 * node + 4);
+        seen += if level == 0 { 2 } else { 7 };
+        if level > 0 && level < b {
+            seen += (0..4).map(|i| u64::from(at(6, 264 * node + i).count_ones())).sum::<u64>();
+        }
+    }
+    seen as usize
+}
+
+/// A memcpy of so many words.
+fn copy(words: usize) -> f64 {
+    let from = vec![1u64; words];
+    let mut to = vec![0u64; words];
+    least(|| clocked(|| black_box(&mut to).copy_from_slice(black_box(&from))).0)
+}
+
+/// A lookup of members, by how many there are under one prefix, by how many prefixes there are, and by P.
+fn growth(numbers: &mut Numbers) -> Vec<(&'static str, Vec<(usize, f64)>)> {
+    let mut time = |sizes: (u64, u64), words: Vec<u64>| {
+        let mut region = ported(sizes, &words, &words).into_region();
+        let idle = least(|| clocked(|| port::set_run(black_box(&mut region), &[], &[], &mut [])).0);
+        let asked = repeated(&words);
+        let (codes, mut answers) = (vec![0; asked.len()], vec![0; asked.len()]);
+        least(|| (clocked(|| port::set_run(black_box(&mut region), &codes, &asked, &mut answers)).0 - idle).max(0.0)) / asked.len() as f64
+    };
+    let members = [10usize, 100, 1024, 1025, 10000, 100000]
+        .map(|n| (n, time((12, 28), random(numbers, n, |numbers| numbers.below(1 << 28)))))
+        .to_vec();
+    let prefixes = [1usize, 10, 100, 1000, 10000, 60000]
+        .map(|n| (n, time((24, 40), random(numbers, n, |numbers| numbers.next()))))
+        .to_vec();
+    let bits = [10usize, 12, 16, 20, 24]
+        .map(|p| (p, time((p as u64, 28), (0..512).map(|i| (i << 28) + 5).collect())))
+        .to_vec();
+    vec![("members of one prefix", members), ("prefixes, one word each", prefixes), ("P, at 512 prefixes", bits)]
 }

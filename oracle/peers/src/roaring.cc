@@ -17,6 +17,11 @@
     extern "C" uint64_t NAME##_count(const void *set) {                                     \
         return static_cast<const TYPE *>(set)->cardinality();                               \
     }                                                                                       \
+    extern "C" uint64_t NAME##_walk(const void *set, uint64_t *out) {                       \
+        uint64_t *at = out;                                                                 \
+        for (auto word : *static_cast<const TYPE *>(set)) *at++ = word;                     \
+        return at - out;                                                                    \
+    }                                                                                       \
     extern "C" void *NAME##_combine(int code, const void *left, const void *right) {        \
         const TYPE &a = *static_cast<const TYPE *>(left);                                   \
         const TYPE &b = *static_cast<const TYPE *>(right);                                  \

@@ -1,13 +1,70 @@
-//! The port as its two static libraries export it: leaves from the tests' crate `leaves`, make from the library
-//! that users link. A leaf refuses what it cannot do with REFUSED. Entries join here as they land.
+//! The port's leaves as the tests' crate `leaves` exports them. A leaf refuses what it cannot do with REFUSED. The entries
+//! are called through the crate in rust/, as users call them.
+
+use driver::{Container, Freed};
 
 pub const REFUSED: u64 = u64::MAX;
 
-#[repr(C)]
-#[derive(Clone, Copy, Debug, PartialEq, Eq)]
-pub struct Verdict {
-    pub number: u64,
-    pub place: u64,
+/// A set of the port behind the face that the Rust's two builds have. A batch is lists of single commands.
+pub struct Ported(pub brothowl::Set);
+
+impl Ported {
+    /// A set of preview keys' sizes, P = 12 and S = 28, with room for a few cards.
+    pub fn new() -> Ported {
+        Ported(brothowl::Set::new(brothowl::Numbers::for_keys(8, 64)).expect("good numbers"))
+    }
+}
+
+impl Default for Ported {
+    fn default() -> Ported {
+        Ported::new()
+    }
+}
+
+impl driver::Set for Ported {
+    fn contains(&self, word: u64) -> bool {
+        self.0.contains(word).expect("a word")
+    }
+    fn insert(&mut self, word: u64) -> bool {
+        self.0.insert(word).expect("room")
+    }
+    fn remove(&mut self, word: u64) -> bool {
+        self.0.remove(word).expect("a word")
+    }
+    fn insert_batch(&mut self, words: &[u64]) {
+        self.0.insert_all(words.iter().copied()).expect("room");
+    }
+    fn remove_batch(&mut self, words: &[u64]) {
+        self.0.remove_all(words.iter().copied()).expect("words");
+    }
+    fn contains_all(&mut self, words: &[u64]) -> bool {
+        self.0.contains_all(words).expect("words")
+    }
+    fn count(&self) -> usize {
+        self.0.len() as usize
+    }
+    fn is_empty(&self) -> bool {
+        self.0.is_empty()
+    }
+    fn walk(&self) -> Vec<u64> {
+        self.0.iter().collect()
+    }
+    fn containers(&self) -> Vec<Container> {
+        let l = self.0.region();
+        let seen = |rank: usize| {
+            let slot = l[l[9] as usize + rank] as usize;
+            let record = &l[l[11] as usize + 4 * slot..][..4];
+            Container { prefix: record[1] as usize, slot, trie: record[0] == 2, stored: record[2] as usize, nodes: 0 }
+        };
+        (0..self.0.containers_in_use() as usize).map(seen).collect()
+    }
+    /// A slot that was in use and is free again is a free slot: it holds nothing.
+    fn freed(&self) -> Vec<Freed> {
+        Vec::new()
+    }
+    fn slots(&self) -> usize {
+        self.0.numbers().containers as usize
+    }
 }
 
 /// How many commands were done, REFUSED if none could be, and the nodes in use.
@@ -19,7 +76,7 @@ pub struct Ran {
 }
 
 mod c {
-    use super::{Ran, Verdict};
+    use super::Ran;
     unsafe extern "C" {
         pub fn leaf_map_contains(map: *const u64, words: usize, xs: *const u8, many: usize) -> u64;
         pub fn leaf_map_change(
@@ -59,7 +116,17 @@ mod c {
             answers: *mut u8,
             many_answers: usize,
         ) -> Ran;
-        pub fn brothowl_make(region: *mut u64, words: usize, p: u64, s: u64, c: u64, n: u64) -> Verdict;
+        pub fn leaf_set_run(
+            region: *mut u64,
+            words: usize,
+            codes: *const u8,
+            many_codes: usize,
+            asked: *const u64,
+            many: usize,
+            answers: *mut u8,
+            many_answers: usize,
+        ) -> u64;
+        pub fn leaf_set_walk(region: *const u64, words: usize, times: u64, out: *mut u64, room: usize) -> u64;
     }
 }
 
@@ -137,8 +204,25 @@ pub fn compare(s: u64, t: u64, b: u64) -> u64 {
     unsafe { c::leaf_compare(s, t, b) }
 }
 
-pub fn make(region: &mut [u64], p: u64, s: u64, c: u64, n: u64) -> Verdict {
-    unsafe { c::brothowl_make(region.as_mut_ptr(), region.len(), p, s, c, n) }
+/// Commands on a region, checked once, however many they are: how many were done.
+pub fn set_run(region: &mut [u64], codes: &[u8], words: &[u64], answers: &mut [u8]) -> u64 {
+    unsafe {
+        c::leaf_set_run(
+            region.as_mut_ptr(),
+            region.len(),
+            codes.as_ptr(),
+            codes.len(),
+            words.as_ptr(),
+            words.len(),
+            answers.as_mut_ptr(),
+            answers.len(),
+        )
+    }
+}
+
+/// Walks a region from its start, checked once, so many times: how many words were written in all.
+pub fn set_walk(region: &[u64], times: u64, out: &mut [u64]) -> u64 {
+    unsafe { c::leaf_set_walk(region.as_ptr(), region.len(), times, out.as_mut_ptr(), out.len()) }
 }
 
 /// One trie in an arena of its own.

@@ -266,7 +266,7 @@ fn make() {
     unsafe { set(at.cast(), 1, bytes) };
     let times = sides(
         if largest { 7 } else { 31 },
-        || port::make(unsafe { std::slice::from_raw_parts_mut(at, words(n)) }, p, s, c, n).number,
+        || brothowl::make(unsafe { std::slice::from_raw_parts_mut(at, words(n)) }, brothowl::Numbers { p, s, containers: c, nodes: n }).is_err() as u64,
         || unsafe {
             set(at.cast(), 0, bytes);
             0

@@ -44,20 +44,22 @@ slice-write-out c = search needs
 add-at : tie.Need-add-at Inv-loop μ-loop
 add-at c = search needs
 
-without-requires : tie.Need-without-requires Inv-loop μ-loop
-without-requires c κs = c .lowest .ensures .small
+without-lowest-requires : tie.Need-without-lowest-requires Inv-loop μ-loop
+without-lowest-requires c κs = search needs
 
 loop-less : tie.Need-loop-less Inv-loop μ-loop
 loop-less c =
-    let W : Without (c .before .before .before .before .loop .w) (c .before .lowest .result) (c .without .result) =
-    record { lowest = c .before .lowest .ensures; here = c .without .ensures .0; other = c .without .ensures .1 } in
+    let L = c .before .lowest .ensures in
+    let W : Without (c .before .before .before .before .loop .w) (c .before .lowest .result) (c .without-lowest .result) =
+    record { lowest = L; here = c .without-lowest .ensures .0 (c .before .lowest .result) L; other = c .without-lowest .ensures .1 .0 (c .before .lowest .result) L } in
     omega (arith, fewer W)
 
 loop-again : tie.Need-loop-again Inv-loop μ-loop
 loop-again c =
     let at = c .before .before .before .before .loop in
-    let W : Without (at .w) (c .before .lowest .result) (c .without .result) =
-    record { lowest = c .before .lowest .ensures; here = c .without .ensures .0; other = c .without .ensures .1 } in
+    let L = c .before .lowest .ensures in
+    let W : Without (at .w) (c .before .lowest .result) (c .without-lowest .result) =
+    record { lowest = L; here = c .without-lowest .ensures .0 (c .before .lowest .result) L; other = c .without-lowest .ensures .1 .0 (c .before .lowest .result) L } in
     let base = c .before .before .before .before .before .before .args .base in
     (length-set (at .out) (at .at) (base + c .before .lowest .result) ∙ at .inv .0, sym (put-lowest W base (at .at) (at .out) (c .before .before .if1 .left)) ∙ at .inv .1)
 
@@ -84,7 +86,7 @@ write-spec =
     mul-out
     slice-write-out
     add-at
-    without-requires
+    without-lowest-requires
     loop-less
     loop-again
     same-length-2

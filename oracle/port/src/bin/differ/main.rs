@@ -11,11 +11,20 @@ use port::REFUSED;
 use std::collections::BTreeSet;
 use std::fmt::Debug;
 
+mod sets;
+
 const SEED: u64 = 2026;
 
 /// The parts, in order. An entry of the port joins with a line here and a face in lib.rs.
-const PARTS: [(&str, fn(&mut Tally, &mut Numbers)); 4] =
-    [("node map", node_map), ("suffix bytes", suffix_bytes), ("prefix bitmap", prefix_bitmap), ("trie", tries)];
+const PARTS: [(&str, fn(&mut Tally, &mut Numbers)); 7] = [
+    ("node map", node_map),
+    ("suffix bytes", suffix_bytes),
+    ("prefix bitmap", prefix_bitmap),
+    ("trie", tries),
+    ("lists and walks", sets::lists),
+    ("batches", sets::batches),
+    ("combinations", sets::combinations),
+];
 
 fn main() {
     let mut sum = 0;

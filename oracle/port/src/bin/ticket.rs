@@ -1,6 +1,7 @@
-//! The support desk's ticket, on the Rust as published and on the corrected copy.
+//! The support desk's ticket, on the Rust as published, on the corrected copy and on the port.
 
 use driver::{fresh, grouped, key, Build, Set};
+use port::Ported;
 
 const FIRST_CARD: u64 = 5;
 const NEXT_CARD: u64 = 6;
@@ -40,8 +41,8 @@ fn name(word: u64) -> String {
     format!("{}-{:04}", word >> 15 & 1023, word >> 1 & 16383)
 }
 
-fn replay(build: Build) -> Vec<String> {
-    let mut it = Column { set: fresh(build, 12, 28), cells: Vec::new() };
+fn replay(set: Box<dyn Set>) -> Vec<String> {
+    let mut it = Column { set, cells: Vec::new() };
     let raws: Vec<u64> = (1..=FRAMES).map(|frame| raw(FIRST_CARD, frame)).collect();
     let sidecars: Vec<u64> = (1..=FRAMES).map(|frame| sidecar(FIRST_CARD, frame)).collect();
 
@@ -69,15 +70,16 @@ fn replay(build: Build) -> Vec<String> {
 }
 
 fn main() {
-    let published = replay(Build::Published);
-    let corrected = replay(Build::Corrected);
-    let mut cells = published.iter().zip(&corrected);
+    let published = replay(fresh(Build::Published, 12, 28));
+    let corrected = replay(fresh(Build::Corrected, 12, 28));
+    let ported = replay(Box::new(Ported::new()));
+    let mut cells = published.iter().zip(&corrected).zip(&ported);
     let mut row = |text: &str| {
-        let (published, corrected) = cells.next().expect("a cell for every row");
-        println!("  {text:<52} | {published:>17} | {corrected:>14} | {:>8}", "open");
+        let ((published, corrected), ported) = cells.next().expect("a cell for every row");
+        println!("  {text:<52} | {published:>17} | {corrected:>14} | {ported:>8}");
     };
 
-    println!("The ticket, replayed on the Rust");
+    println!("The ticket, replayed on the Rust and on the port");
     println!();
     println!("A set of preview keys, 12 bits of card and 28 of the rest. Card 5 is Tuesday's");
     println!("shoot, card 6 the next card. Frames are named folder-frame.");
@@ -103,11 +105,10 @@ fn main() {
     row("first frame that card 6 shows");
     row("last frame that card 6 shows");
     println!();
-    println!("open: comes with the list entry.");
-    println!();
     let inherited = published[published.len() - 3].clone();
     println!("As published, card 6 opens with {inherited} frames of card 5. With the corrected line");
-    println!("nothing is deleted that was not cached, and card 6 shows its own frame only.");
+    println!("nothing is deleted that was not cached, and card 6 shows its own frame only. So it is with the port.");
     assert_eq!(corrected[corrected.len() - 3], "0", "the corrected copy inherits keys");
+    assert_eq!(ported, corrected, "the port differs from the corrected copy");
     assert!(cells.next().is_none(), "a row for every cell");
 }

@@ -2,13 +2,42 @@
 #![allow(incomplete_features)]
 #![feature(generic_const_exprs)]
 
+use brothowl::{Numbers, Operation, Refusal};
 use driver::{corrected, fresh, grouped, published, Build, Set};
+use port::Ported;
 use std::panic::{catch_unwind, AssertUnwindSafe};
 
 type Published = published::wordset::WordSet<12, 28>;
 type Corrected = corrected::wordset::WordSet<12, 28>;
 
-const BUILDS: [(&str, Build); 2] = [("published", Build::Published), ("corrected", Build::Corrected)];
+const BUILDS: [(&str, Which); 3] = [("published", Which::Rust(Build::Published)), ("corrected", Which::Rust(Build::Corrected)), ("the port", Which::Port)];
+
+#[derive(Clone, Copy)]
+enum Which {
+    Rust(Build),
+    Port,
+}
+
+fn new(which: Which) -> Box<dyn Set> {
+    match which {
+        Which::Rust(build) => fresh(build, 12, 28),
+        Which::Port => Box::new(Ported::new()),
+    }
+}
+
+/// A set of the port with some words.
+fn ported(words: impl IntoIterator<Item = u64>) -> Ported {
+    let mut set = Ported::new();
+    set.0.insert_all(words).expect("room");
+    set
+}
+
+/// Two sets of the port combined into a third.
+fn combined(operation: Operation, a: &Ported, b: &Ported) -> Ported {
+    let mut result = Ported::new();
+    result.0.combine(operation, &a.0, &b.0).expect("room");
+    result
+}
 
 fn title(text: &str, input: &str) {
     println!("{text}");
@@ -33,8 +62,8 @@ fn kind(set: &dyn Set) -> String {
 }
 
 /// A set with the suffixes 0 to end - 1 under prefix 0.
-fn row(build: Build, end: u64) -> Box<dyn Set> {
-    let mut set = fresh(build, 12, 28);
+fn row(which: Which, end: u64) -> Box<dyn Set> {
+    let mut set = new(which);
     for suffix in 0..end {
         set.insert(suffix);
     }
@@ -69,7 +98,7 @@ fn main() {
 
     title("2. the count falls with absent removals, and comes back", "insert 0, 2, … 3,998; remove 1, 3, … 3,999 one by one");
     for (name, build) in BUILDS {
-        let mut set = fresh(build, 12, 28);
+        let mut set = new(build);
         for frame in 0..2000 {
             set.insert(2 * frame);
         }
@@ -141,6 +170,7 @@ fn main() {
         b.insert(600 + suffix);
     }
     println!("  published: {}", kind(&Published::merge(vec![&mut a, &mut b])));
+    println!("  the port: {}", kind(&combined(Operation::Or, &ported(0..600), &ported(600..1200))));
     println!("  input, the smallest: a: insert 0 to 1,023; b: insert 1,024; merge a and b");
     let (mut a, mut b) = (Published::new(), Published::new());
     for suffix in 0..1024u64 {
@@ -148,6 +178,7 @@ fn main() {
     }
     b.insert(1024u64);
     println!("  published: {}", kind(&Published::merge(vec![&mut a, &mut b])));
+    println!("  the port: {}", kind(&combined(Operation::Or, &ported(0..1024), &ported([1024]))));
     println!("  input: a and b: insert 0 to 1,024 each; intersect a and b");
     let (mut a, mut b) = (Published::new(), Published::new());
     for suffix in 0..1025u64 {
@@ -155,6 +186,7 @@ fn main() {
         b.insert(suffix);
     }
     println!("  published: {}", kind(&Published::intersect(vec![&mut a, &mut b])));
+    println!("  the port: {}", kind(&combined(Operation::And, &ported(0..1025), &ported(0..1025))));
     println!();
 
     title("6. merge and intersect sort their operands", "a: insert 2, 1; b: insert 1; walk a before and after");
@@ -170,6 +202,12 @@ fn main() {
             Published::intersect(vec![&mut a, &mut b]);
         }
         println!("  published, {name}: before {}; after {}", words(&before), words(&a.walk()));
+    }
+    let (a, b) = (ported([2, 1]), ported([1]));
+    let before = a.0.region().to_vec();
+    for (name, operation) in [("or", Operation::Or), ("and", Operation::And)] {
+        combined(operation, &a, &b);
+        println!("  the port, {name}: before {}; after {}; the region is as before: {}", words(&[2, 1]), words(&a.walk()), a.0.region() == before);
     }
     println!();
 
@@ -192,6 +230,11 @@ fn main() {
     a.remove(1u64 << 28);
     a.insert(2u64 << 28);
     println!("  published, insert instead: slot {}; slots made {}; freed and waiting {}", a.containers()[0].slot, a.slots(), a.freed().len());
+    let mut a = ported([1 << 28]);
+    a.remove(1 << 28);
+    for (name, operation) in [("or", Operation::Or), ("xor", Operation::Xor)] {
+        println!("  the port, {name}: slot {}", combined(operation, &a, &ported([2 << 28])).containers()[0].slot);
+    }
     println!();
 
     title("8. a word at or above 2^(P+S) is not checked", "the word 2^40 at P=12, S=28");
@@ -199,6 +242,9 @@ fn main() {
     println!("  published: prefix {}; suffix {}; prefixes there are: 0 to {}", grouped(prefix), suffix.get::<u64>(), grouped(4095));
     let asked = catch_unwind(AssertUnwindSafe(|| Published::new().contains(1u64 << 40)));
     println!("  published: the bitmap is asked for bit {}; our stand-in for it stops: {}", grouped(prefix), asked.is_err());
+    let told = |told: Result<bool, Refusal>| told.map_or_else(|refusal| format!("refused with {}", refusal.number()), |answer| format!("answers {}", answer as u8));
+    let mut set = Ported::new();
+    println!("  the port: lookup {}; insert {}", told(set.0.contains(1 << 40)), told(set.0.insert(1 << 40)));
     println!();
 
     title("9. a suffix made from a narrower integer", "not run: it would read past the integer");
@@ -225,6 +271,10 @@ fn main() {
     size!(25, 8);
     size!(12, 41);
     size!(33, 8);
+    for (p, s) in [(0, 8), (25, 8), (12, 41), (33, 8)] {
+        let made = brothowl::Set::new(Numbers { p, s, containers: 1, nodes: 0 });
+        println!("  the port, P={p} S={s}: {}", made.map_or_else(|refusal| format!("refused with {}", refusal.number()), |_| "made".into()));
+    }
     println!();
 
     title("11. operands are taken as mutable", "asked of the compiler: these lines are in the program");
@@ -234,6 +284,8 @@ fn main() {
     let asked: fn(&mut Corrected, &[u64]) -> bool = Corrected::contains_all::<u64>;
     println!("  a combination takes (&mut, &mut); members of the result: {}", both(&mut a, &mut b).walk().len());
     println!("  contains_all takes &mut; an empty list: {}", asked(&mut a, &[]) as u8);
+    let a = ported([1]);
+    println!("  the port: a xor a, one region lent twice: members of the result: {}; an empty list: {}", combined(Operation::Xor, &a, &a).walk().len(), a.0.contains_all(&[]).expect("no words") as u8);
     println!();
 
     title("12. slots and stored order of a combination", "a: insert 0 under prefix 2; b: insert 0 under prefix 1; a | b");
@@ -243,9 +295,13 @@ fn main() {
     for c in (&mut a | &mut b).containers() {
         println!("  published: prefix {} has slot {}", c.prefix, c.slot);
     }
+    for c in combined(Operation::Or, &ported([2 << 28]), &ported([1 << 28])).containers() {
+        println!("  the port: prefix {} has slot {}", c.prefix, c.slot);
+    }
     println!("  input: a: insert 2; b: insert 1; merge a and b");
     let (mut a, mut b) = (Published::new(), Published::new());
     a.insert(2u64);
     b.insert(1u64);
     println!("  published: walk {}", words(&Published::merge(vec![&mut a, &mut b]).walk()));
+    println!("  the port, or: walk {}", words(&combined(Operation::Or, &ported([2]), &ported([1])).walk()));
 }

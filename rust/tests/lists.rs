@@ -1,0 +1,194 @@
+//! Command lists against the model of document 01: answers, refusals and their places, and what the region reads as.
+mod common;
+use brothowl::{all_members, make, run, walk, Numbers, Refusal};
+use common::{hold, Model, Numbers64};
+
+const MARK: u64 = 0xDEAD_BEEF_0BAD_CAFE;
+
+fn region(numbers: Numbers) -> Vec<u64> {
+    let mut l = vec![MARK; numbers.words().unwrap() + 3];
+    make(&mut l, numbers).unwrap();
+    l
+}
+
+/// Runs one list on both and compares all that is written and not written.
+fn both(l: &mut [u64], model: &mut Model, codes: &[u8], words: &[u64], room: usize) -> Result<(), Refusal> {
+    let mut answers = vec![9u8; room];
+    let mut expected = answers.clone();
+    let before = l.to_vec();
+    let told = run(l, codes, words, &mut answers);
+    assert_eq!(told, model.run(codes, words, &mut expected), "{codes:?} {words:?}");
+    assert_eq!(answers, expected);
+    if told.is_err() && !matches!(told, Err(Refusal::NoRoom { .. })) {
+        assert!(l == before, "a refusal changed a word");
+    }
+    told
+}
+
+/// The walk from some places, and all members of some lists.
+fn ask(l: &[u64], model: &Model, random: &mut Numbers64) {
+    let words = model.walk();
+    let n = words.len() as u64;
+    for start in [0, n / 2, n.saturating_sub(1), n, n + 1, u64::MAX, random.below(n + 1)] {
+        for room in [0, 1, 3, words.len() + 2] {
+            let mut out = vec![MARK; room];
+            let told = walk(l, start, &mut out);
+            if start > n {
+                assert_eq!(told, Err(Refusal::StartTooFar));
+                assert!(out.iter().all(|w| *w == MARK));
+                continue;
+            }
+            let want = &words[start as usize..][..room.min((n - start) as usize)];
+            assert_eq!(told, Ok(want.len()));
+            assert_eq!(&out[..want.len()], want);
+            assert!(out[want.len()..].iter().all(|w| *w == MARK));
+        }
+    }
+    let some: Vec<u64> = words.iter().take(4096).copied().collect();
+    assert_eq!(all_members(l, &some), Ok(true));
+    let other = random.next() >> (64 - model.numbers.p - model.numbers.s);
+    let mut more = some;
+    more.truncate(4095);
+    more.push(other);
+    assert_eq!(all_members(l, &more), Ok(model.contains(other)));
+}
+
+#[test]
+fn small_sets_by_random_lists() {
+    let mut random = Numbers64(1);
+    for round in 0..400 {
+        let numbers = Numbers { p: 1 + random.below(4), s: 1 + random.below(6), containers: 1 + random.below(6), nodes: random.below(3) };
+        let mut l = region(numbers);
+        let mut model = Model::new(numbers);
+        for _ in 0..20 {
+            let n = random.below(30) as usize;
+            let top = 1u64 << (numbers.p + numbers.s);
+            // now and then a word, a code or a length is wrong, or several are
+            let words: Vec<u64> = (0..n).map(|_| if random.below(90) == 0 { top + random.below(3) } else { random.below(top) }).collect();
+            let mut codes: Vec<u8> = (0..n).map(|_| if random.below(90) == 0 { 3 + random.below(253) as u8 } else { random.below(3) as u8 }).collect();
+            if random.below(12) == 0 {
+                codes.push(1);
+            }
+            let room = if random.below(12) == 0 { n.saturating_sub(1) } else { n + random.below(3) as usize };
+            let _ = both(&mut l, &mut model, &codes, &words, room);
+            hold(&l, &model, MARK);
+        }
+        if round % 10 == 0 {
+            ask(&l, &model, &mut random);
+        }
+    }
+}
+
+#[test]
+fn across_the_threshold_at_every_width() {
+    let mut random = Numbers64(2);
+    for s in 11..=40 {
+        let numbers = Numbers { p: 2, s, containers: 3, nodes: 4000 };
+        let mut l = region(numbers);
+        let mut model = Model::new(numbers);
+        let base = 2u64 << s;
+        let mut words: Vec<u64> = Vec::new();
+        while words.len() < 1030 {
+            let w = base + random.below(1 << s);
+            if !words.contains(&w) {
+                words.push(w);
+            }
+        }
+        both(&mut l, &mut model, &[1; 1024], &words[..1024], 1024).unwrap();
+        hold(&l, &model, MARK);
+        for w in &words[1024..] {
+            both(&mut l, &mut model, &[1, 0, 1], &[*w, *w, *w], 3).unwrap();
+            hold(&l, &model, MARK);
+        }
+        ask(&l, &model, &mut random);
+        // down again, absent words among them: none of them counts
+        for w in words.iter().rev().take(8) {
+            both(&mut l, &mut model, &[2, 2, 0], &[*w, *w, *w], 3).unwrap();
+            hold(&l, &model, MARK);
+        }
+        ask(&l, &model, &mut random);
+        // to nothing: the slot is the next to be handed out
+        both(&mut l, &mut model, &[2; 1030], &words, 1030).unwrap();
+        hold(&l, &model, MARK);
+        both(&mut l, &mut model, &[1], &[3 << s], 1).unwrap();
+        hold(&l, &model, MARK);
+    }
+}
+
+#[test]
+fn room_exact_and_one_short() {
+    let mut random = Numbers64(3);
+    for s in [11, 16, 17, 28, 33, 40] {
+        for _ in 0..3 {
+            let mut words: Vec<u64> = Vec::new();
+            // clustered, so that strings are shared
+            let clusters: Vec<u64> = (0..20).map(|_| random.below(1 << s)).collect();
+            while words.len() < 1100 {
+                let w = (clusters[random.below(20) as usize] & !0x3ff) % (1 << s) + random.below(1024).min((1 << s) - 1);
+                if w < 1 << s && !words.contains(&w) {
+                    words.push(w);
+                }
+            }
+            let needs = common::trie_nodes(s, words.iter().copied());
+            for nodes in [needs, needs - 1, needs / 2, 0] {
+                let numbers = Numbers { p: 1, s, containers: 1, nodes };
+                let mut l = region(numbers);
+                let mut model = Model::new(numbers);
+                let told = both(&mut l, &mut model, &[1; 1100], &words, 1100);
+                assert_eq!(told.is_ok(), nodes >= needs);
+                hold(&l, &model, MARK);
+                let all = words.iter().copied().collect();
+                assert_eq!(common::fits(numbers, &all), nodes >= needs);
+                // a member is never refused for room
+                let first = words[0];
+                both(&mut l, &mut model, &[1], &[first], 1).unwrap();
+                hold(&l, &model, MARK);
+            }
+        }
+    }
+}
+
+#[test]
+fn many_tries_share_the_nodes() {
+    let mut random = Numbers64(4);
+    let numbers = Numbers { p: 3, s: 18, containers: 4, nodes: 700 };
+    let mut l = region(numbers);
+    let mut model = Model::new(numbers);
+    for _ in 0..60 {
+        let n = 300;
+        let dense = random.below(2) == 0;
+        let words: Vec<u64> = (0..n).map(|_| (random.below(5) << 18) + if dense { random.below(3000) } else { random.below(1 << 18) }).collect();
+        let codes: Vec<u8> = (0..n).map(|_| [1, 1, 1, 0, 2][random.below(5) as usize]).collect();
+        let _ = both(&mut l, &mut model, &codes, &words, n);
+        hold(&l, &model, MARK);
+        if random.below(4) == 0 {
+            let gone: Vec<u64> = model.walk().into_iter().take(1500).collect();
+            both(&mut l, &mut model, &vec![2; gone.len()], &gone, gone.len()).unwrap();
+            hold(&l, &model, MARK);
+        }
+    }
+    ask(&l, &model, &mut random);
+}
+
+#[test]
+fn the_longest_list_and_one_more() {
+    let numbers = Numbers { p: 1, s: 40, containers: 2, nodes: 0 };
+    let mut l = region(numbers);
+    let mut model = Model::new(numbers);
+    both(&mut l, &mut model, &[0; 4096], &[0; 4096], 4096).unwrap();
+    assert_eq!(both(&mut l, &mut model, &[0; 4097], &[0; 4097], 4097), Err(Refusal::BadLengths));
+    assert_eq!(all_members(&l, &[0; 4097]), Err(Refusal::BadLengths));
+    assert_eq!(all_members(&l, &[1 << 41]), Err(Refusal::WordTooLarge { place: 0 }));
+    assert_eq!(all_members(&l, &[]), Ok(true));
+    both(&mut l, &mut model, &[], &[], 0).unwrap();
+}
+
+#[test]
+fn a_word_of_64_bits_is_a_word() {
+    let numbers = Numbers { p: 24, s: 40, containers: 2, nodes: 0 };
+    let mut l = region(numbers);
+    let mut model = Model::new(numbers);
+    both(&mut l, &mut model, &[1, 0, 2], &[u64::MAX; 3], 3).unwrap();
+    assert_eq!(l[7], 0);
+    assert_eq!(Model::read(&l), Some(model));
+}
