@@ -1,4 +1,4 @@
-//! Links the tests' library of leaves; the library that users link comes with the crate in rust/. oracle/differ and
+//! Links the tests' two libraries, of leaves and of what stands below the set's entries; the library that users link comes with the crate in rust/. oracle/differ and
 //! oracle/bench-leaves make both first; BROTHOWL_LIB names another folder that has them.
 use std::path::PathBuf;
 use std::process::Command;
@@ -15,12 +15,14 @@ fn main() {
     let folder = std::env::var_os("BROTHOWL_LIB")
         .map(PathBuf::from)
         .unwrap_or_else(|| here.join("../../../staticlib"));
-    let archive = folder.join("libleaves.a");
-    if !archive.is_file() {
-        panic!("{} is not there: run `rt staticlib leaves` in the top folder first", archive.display());
+    for name in ["leaves", "leaves_sets"] {
+        let archive = folder.join(format!("lib{name}.a"));
+        if !archive.is_file() {
+            panic!("{} is not there: run `rt staticlib {name}` in the top folder first", archive.display());
+        }
+        println!("cargo:rerun-if-changed={}", archive.display());
+        println!("cargo:rustc-link-lib=static={name}");
     }
-    println!("cargo:rerun-if-changed={}", archive.display());
-    println!("cargo:rustc-link-lib=static=leaves");
     println!("cargo:rustc-link-search=native={}", folder.display());
 
     // The plain loop in C that rank is held against.

@@ -122,7 +122,8 @@ pub struct TieredVec32 {
     chunks: RefCell<Vec<VecDeque<u32>>>,
 }
 
-const CHUNK: usize = 512;
+/// The feature `flat` keeps all in one chunk: the flat table that the port has, for the bench's row of new prefixes.
+const CHUNK: usize = if cfg!(feature = "flat") { usize::MAX } else { 512 };
 
 impl TieredVec32 {
     pub fn new() -> Self {

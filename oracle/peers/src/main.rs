@@ -3,6 +3,7 @@
 #![feature(generic_const_exprs)]
 
 use brothowl::{Operation, Set};
+use cbl_flat::wordset::WordSet as FlatSet;
 use cbl_original::wordset::WordSet;
 use driver::{grouped, Numbers};
 use std::collections::BTreeSet;
@@ -23,42 +24,49 @@ trait Peer: Sized {
     fn combine(&mut self, code: i32, other: &mut Self) -> Self;
 }
 
-impl<const P: usize, const S: usize> Peer for WordSet<P, S>
-where
-    [(); S.div_ceil(8)]:,
-{
-    fn new() -> Self {
-        WordSet::new()
-    }
-    fn contains(&self, word: u64) -> bool {
-        WordSet::contains(self, word)
-    }
-    fn insert(&mut self, word: u64) -> bool {
-        WordSet::insert(self, word)
-    }
-    fn remove(&mut self, word: u64) -> bool {
-        WordSet::remove(self, word)
-    }
-    fn count(&self) -> u64 {
-        WordSet::count(self) as u64
-    }
-    fn words(&self, out: &mut [u64]) -> usize {
-        let mut written = 0;
-        for (word, place) in self.iter::<u64>().zip(out) {
-            *place = word;
-            written += 1;
+macro_rules! rust {
+    ($set:ident) => {
+        impl<const P: usize, const S: usize> Peer for $set<P, S>
+        where
+            [(); S.div_ceil(8)]:,
+        {
+            fn new() -> Self {
+                $set::new()
+            }
+            fn contains(&self, word: u64) -> bool {
+                $set::contains(self, word)
+            }
+            fn insert(&mut self, word: u64) -> bool {
+                $set::insert(self, word)
+            }
+            fn remove(&mut self, word: u64) -> bool {
+                $set::remove(self, word)
+            }
+            fn count(&self) -> u64 {
+                $set::count(self) as u64
+            }
+            fn words(&self, out: &mut [u64]) -> usize {
+                let mut written = 0;
+                for (word, place) in self.iter::<u64>().zip(out) {
+                    *place = word;
+                    written += 1;
+                }
+                written
+            }
+            fn combine(&mut self, code: i32, other: &mut Self) -> Self {
+                match code {
+                    0 => self | other,
+                    1 => self & other,
+                    2 => self - other,
+                    _ => self ^ other,
+                }
+            }
         }
-        written
-    }
-    fn combine(&mut self, code: i32, other: &mut Self) -> Self {
-        match code {
-            0 => self | other,
-            1 => self & other,
-            2 => self - other,
-            _ => self ^ other,
-        }
-    }
+    };
 }
+
+rust!(WordSet);
+rust!(FlatSet);
 
 unsafe extern "C" {
     fn Judy1Test(array: *const c_void, index: usize, error: *mut c_void) -> i32;
@@ -556,9 +564,10 @@ fn main() {
             shape.absent = under(new, 1);
             shape.new = under(new, 1);
         }
+        // A new prefix is held against the Rust with a flat table, as the port's is.
         let times = in_turn([
             &mut || port_steps(&shape),
-            &mut || steps::<WordSet<24, 40>>(&shape),
+            &mut || if fresh { steps::<FlatSet<24, 40>>(&shape) } else { steps::<WordSet<24, 40>>(&shape) },
             &mut || steps::<Judy>(&shape),
             &mut || steps::<Roaring64>(&shape),
         ]);

@@ -1,4 +1,4 @@
-//! The port's leaves as the tests' crate `leaves` exports them. A leaf refuses what it cannot do with REFUSED. The entries
+//! The port's leaves as the tests' crates `leaves` and `leaves_sets` export them. A leaf refuses what it cannot do with REFUSED. The entries
 //! are called through the crate in rust/, as users call them.
 
 use driver::{Container, Freed};
