@@ -12,7 +12,7 @@ const OPERATIONS: [Operation; 4] = [Operation::Or, Operation::And, Operation::Mi
 
 /// Room for all that is asked of it here, so that no list is refused.
 fn roomy(p: usize, s: usize, prefixes: u64) -> Set {
-    let sizes = Sizes { p: p as u64, s: s as u64, containers: prefixes.min(1 << p), nodes: 20000 };
+    let sizes = Sizes { p: p as u64, s: s as u64, containers: prefixes.min(1 << p), nodes: 12000 };
     Set::new(sizes).expect("good numbers")
 }
 
@@ -42,7 +42,7 @@ pub fn lists(tally: &mut Tally, numbers: &mut Numbers) {
             let absent = round % 2 == 1;
             let many = [1, 3, 40][round / 2];
             let words = Words::new(numbers, p, s, many);
-            let mut port = roomy(p, s, words.prefixes.len() as u64);
+            let mut region = roomy(p, s, words.prefixes.len() as u64).into_region();
             let builds = if absent { &[Build::Corrected][..] } else { &[Build::Published, Build::Corrected][..] };
             let mut rusts: Vec<_> = builds.iter().map(|build| (*build, fresh(*build, p, s))).collect();
             let mut model = BTreeSet::new();
@@ -71,11 +71,10 @@ pub fn lists(tally: &mut Tally, numbers: &mut Numbers) {
                 }
                 let what = || format!("P = {p}, S = {s}, round {round}, list {list} of {n} commands");
                 let mut answers = vec![7u8; n + 1];
-                let mut region = std::mem::replace(&mut port, roomy(1, 1, 1)).into_region();
                 let told = brothowl::run(&mut region, &codes, &given, &mut answers);
                 tally.same(what, told, Ok(()));
                 tally.same(|| format!("{}, the byte past the list", what()), answers.pop(), Some(7));
-                port = Set::over(region).expect("well formed");
+                let port = Set::over(&region[..]).expect("well formed");
                 for (build, rust) in &mut rusts {
                     for (place, (&code, &word)) in codes.iter().zip(&given).enumerate() {
                         let answer = match code {
@@ -93,7 +92,7 @@ pub fn lists(tally: &mut Tally, numbers: &mut Numbers) {
 }
 
 /// Count, walk in order, containers with slot, kind, length and nodes.
-fn compare(tally: &mut Tally, what: impl Fn() -> String, port: &Set, rust: &dyn driver::Set) {
+fn compare(tally: &mut Tally, what: impl Fn() -> String, port: &Set<&[u64]>, rust: &dyn driver::Set) {
     let walk: Vec<u64> = port.iter().collect();
     tally.made += walk.len();
     tally.same(|| format!("{}, the walk", what()), &walk, &rust.walk());
