@@ -1,14 +1,20 @@
 -- The prefix at a rank says on which side of it another prefix's rank lies: a set prefix below counts, and no more than its rank lie below it. Assumes nothing.
 use Prim.Native.Nat.{ℕ, _+_, _^_, _<_, _≤_}
-use mathlib.Core.Path.{_≡_, ap, _∙_}
+use mathlib.Core.Path.{_≡_, sym, ap, _∙_}
+use mathlib.Core.Bool.{true, _&&_}
 use mathlib.Core.List.{List}
 use native.Mathlib.Omega.{arith}
+use lib.Dec.{leb}
+use borrow.Author.Tests.{leb-true}
+use Rattle.lists.proofs.Laws.{and-both}
 use Rattle.lists.proofs.Sums.{sum-mono, sum-less}
+use Rattle.region.specs.Ranges.{goodP, goodS, goodC, goodN}
 use Rattle.region.specs.Areas.{Numbers, numbers}
 use Rattle.region.specs.Seen.{Seen, seen}
 use Rattle.region.specs.WellFormed.{rankOf, Placed, WellFormed}
 use Rattle.region.proofs.SeenBits.{seen-bits}
 use Rattle.region.proofs.Containers.{AtRank, at-rank, rank-small, k-fits}
+use Rattle.lens.specs.Search.{Between}
 
 module _ (g : Numbers) (v : Seen) (pl : Placed g v) where
   rank-past : (p r : ℕ) → AtRank g v r → v .prefix (v .slot r) < p → r < rankOf g v p
@@ -21,12 +27,6 @@ module _ (g : Numbers) (v : Seen) (pl : Placed g v) where
       let z : rankOf g v p ≤ rankOf g v (v .prefix (v .slot r)) = sum-mono (v .bit) p (v .prefix (v .slot r)) b in
       omega (arith, a .rank-is)
 
--- the search: p's rank lies from low to high
-pub record Between (l : List ℕ) (p low high : ℕ) : Type 0 where
-  pub from : low ≤ rankOf (numbers l) (seen (numbers l) l) p
-  pub upto : rankOf (numbers l) (seen (numbers l) l) p ≤ high
-  pub in-use : high ≤ numbers l .k
-
 module _ {l : List ℕ} (wf : WellFormed l) where
   at : (r : ℕ) → r < numbers l .k → AtRank (numbers l) (seen (numbers l) l) r
   at = at-rank (numbers l) (seen (numbers l) l) (wf .shape .placed) (seen-bits (numbers l) l)
@@ -37,6 +37,14 @@ module _ {l : List ℕ} (wf : WellFormed l) where
 
   pub slot-small : (r : ℕ) → r < numbers l .k → seen (numbers l) l .slot r < numbers l .C
   slot-small r h = at r h .in-range
+
+  -- at most 65,536 containers are in use
+  pub k-small : numbers l .k ≤ 65536
+  k-small =
+      let g = numbers l in
+      let r = wf .ready .header .ranges in
+      let c : goodC (g .C) ≡ true = and-both (goodP (g .P) && goodS (g .S)) (goodC (g .C)) (and-both (goodP (g .P) && goodS (g .S) && goodC (g .C)) (goodN (g .N)) r .0) .1 in
+      omega (arith, k-fits g (seen g l) (wf .shape .placed) (seen-bits g l), leb-true (g .C) 65536 (and-both (leb 1 (g .C)) (leb (g .C) 65536) c .1))
 
   -- the rank of a set prefix is in use
   pub rank-in-use : (p : ℕ) → p < 2 ^ numbers l .P → seen (numbers l) l .bit p ≡ 1 → rankOf (numbers l) (seen (numbers l) l) p < numbers l .k
@@ -63,3 +71,10 @@ module _ {l : List ℕ} (wf : WellFormed l) where
       upto = rank-upto (numbers l) (seen (numbers l) l) (wf .shape .placed) p m (at m (omega (arith, b .in-use))) (omega (arith, prefix-there));
       in-use = omega (arith, b .in-use);
     }
+
+    -- the prefix is p itself
+    pub search-hit : q ≡ p → Between l p m m
+    search-hit e =
+        let u = search-down (omega arith) in
+        let z : rankOf (numbers l) (seen (numbers l) l) p ≡ m = ap (rankOf (numbers l) (seen (numbers l) l)) (sym e ∙ prefix-there) ∙ at m (omega (arith, b .in-use)) .rank-is in
+        record { from = omega arith; upto = u .upto; in-use = u .in-use }

@@ -4,7 +4,7 @@ ghost use Rattle.promises.specs.Make.{MakePromise};
 use crate::geometry::Geometry;
 use promises::Made;
 
-mod fill;
+pub mod fill;
 pub mod fresh;
 pub mod geometry;
 

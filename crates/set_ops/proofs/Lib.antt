@@ -4,5 +4,9 @@ pub mod Pouring
 pub mod Places
 pub mod Sources
 pub mod Clearing
+pub mod AfreshNodes
+pub mod AfreshSlots
+pub mod AfreshReads
+pub mod AfreshSteps
 pub mod Choosing
 pub mod Promise

@@ -276,14 +276,14 @@ fn steps<T: Peer>(shape: &Shape) -> [f64; 4] {
     let (codes, words) = pairs(&shape.new);
     let pair = least(|| {
         let (time, answered) = clocked(|| {
-            let one = |(&code, &word): (&u8, &u64)| if code == 1 { set.insert(word) } else { set.remove(word) };
+            let mut one = |(&code, &word): (&u8, &u64)| if code == 1 { set.insert(word) } else { set.remove(word) };
             codes.iter().zip(&words).filter(|&pair| one(pair)).count()
         });
         assert_eq!(answered, words.len(), "a wrong insert or remove");
         time / (words.len() / 2) as f64
     });
     let mut out = vec![0; shape.members.len()];
-    let times = (MANY / 4 / out.len()).max(1);
+    let times = (MANY / out.len()).max(8);
     let walk = least(|| {
         let (time, written) = clocked(|| (0..times).map(|_| set.words(black_box(&mut out))).sum::<usize>());
         assert_eq!(written, times * out.len(), "a wrong walk");
@@ -345,7 +345,7 @@ fn port_steps(shape: &Shape) -> [f64; 4] {
     let (codes, words) = pairs(&shape.new);
     let pair = 2.0 * run(&codes, &words, 1);
     let mut out = vec![0; shape.members.len()];
-    let times = (MANY / 4 / out.len()).max(1);
+    let times = (MANY / out.len()).max(8);
     let none = least(|| clocked(|| port::set_walk(black_box(&region), 0, &mut out)).0);
     let walk = least(|| {
         let (time, written) = clocked(|| port::set_walk(black_box(&region), times as u64, &mut out));
@@ -681,7 +681,7 @@ fn copy(words: usize) -> f64 {
 
 /// A lookup of members, by how many there are under one prefix, by how many prefixes there are, and by P.
 fn growth(numbers: &mut Numbers) -> Vec<(&'static str, Vec<(usize, f64)>)> {
-    let mut time = |sizes: (u64, u64), words: Vec<u64>| {
+    let time = |sizes: (u64, u64), words: Vec<u64>| {
         let mut region = ported(sizes, &words, &words).into_region();
         let idle = least(|| clocked(|| port::set_run(black_box(&mut region), &[], &[], &mut [])).0);
         let asked = repeated(&words);

@@ -1,7 +1,8 @@
 -- The rank lies between low and high, and the prefix in the middle says in which half. Assumes nothing.
 use Prim.Native.Nat.{_+_, _-_, _/_}
 use native.Mathlib.Omega.{arith}
-use Rattle.lens.proofs.Ranks.{Between, place-small, slot-small, search-start, search-up, search-down}
+use Rattle.lens.specs.Search.{Between}
+use Rattle.lens.proofs.Ranks.{k-small, place-small, slot-small, search-up, search-down}
 use Rattle.lens.proofs.rank.rank_of.Statement.{statement}
 use Rattle.lens.proofs.rank.rank_of.Tie as tie
 
@@ -11,17 +12,17 @@ Inv-loop region p low₀ high₀ low high = Between region p low high
 abbrev μ-loop : tie.MeasureT-loop
 μ-loop region p low₀ high₀ low high = high - low
 
-k-requires : tie.Need-k-requires Inv-loop μ-loop
-k-requires c κs = c .before .pre .0 .ready
+first-window-requires : tie.Need-first-window-requires Inv-loop μ-loop
+first-window-requires c κs = (c .before .pre .0, c .before .pre .1)
 
 loop-holds : tie.Need-loop-holds Inv-loop μ-loop
-loop-holds c = search-start (c .before .before .pre .0) (c .before .before .args .p) (c .k .result) (c .before .before .pre .1) (c .k .ensures)
+loop-holds c = c .first-window .ensures
 
 sub-middle : tie.Need-sub-middle Inv-loop μ-loop
 sub-middle c = omega arith
 
 add-middle : tie.Need-add-middle Inv-loop μ-loop
-add-middle c = omega arith
+add-middle c = omega (arith, c .before .loop .inv .in-use, k-small (c .before .before .before .before .pre .0))
 
 slot-requires : tie.Need-slot-requires Inv-loop μ-loop
 slot-requires c κs = (c .before .before .before .before .pre .0 .ready, place-small (c .before .before .before .before .pre .0) (c .before .loop .low + (c .before .loop .high - c .before .loop .low) / 2) (omega arith))
@@ -31,7 +32,7 @@ prefix-requires c κs =
     (c .before .before .before .before .before .pre .0 .ready, rw (c .slot .ensures) (slot-small (c .before .before .before .before .before .pre .0) (c .before .before .loop .low + (c .before .before .loop .high - c .before .before .loop .low) / 2) (omega arith)))
 
 add-low : tie.Need-add-low Inv-loop μ-loop
-add-low c = omega arith
+add-low c = omega (arith, c .before .before .before .before .loop .inv .in-use, k-small (c .before .before .before .before .before .before .before .pre .0))
 
 loop-less : tie.Need-loop-less Inv-loop μ-loop
 loop-less c = omega arith
@@ -56,7 +57,7 @@ rank-of-spec =
     (tie.spec
     Inv-loop
     μ-loop
-    k-requires
+    first-window-requires
     loop-holds
     sub-middle
     add-middle
