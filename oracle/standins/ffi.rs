@@ -6,6 +6,7 @@
 // Not known: the C++'s cost, and what it does outside its range. Ours stops there.
 
 use std::cell::{Cell, RefCell};
+#[cfg(not(feature = "flat"))]
 use std::collections::VecDeque;
 use std::ops::Deref;
 
@@ -117,14 +118,16 @@ impl RankBV {
 
 /// A row of numbers with insert and remove in the middle, in two levels:
 /// every chunk but the last is full, so a place is found by division.
+#[cfg(not(feature = "flat"))]
 #[derive(Default)]
 pub struct TieredVec32 {
     chunks: RefCell<Vec<VecDeque<u32>>>,
 }
 
-/// The feature `flat` keeps all in one chunk: the flat table that the port has, for the bench's row of new prefixes.
-const CHUNK: usize = if cfg!(feature = "flat") { usize::MAX } else { 512 };
+#[cfg(not(feature = "flat"))]
+const CHUNK: usize = 512;
 
+#[cfg(not(feature = "flat"))]
 impl TieredVec32 {
     pub fn new() -> Self {
         Self::default()
@@ -173,5 +176,39 @@ impl TieredVec32 {
         if chunks.last().is_some_and(|last| last.is_empty()) {
             chunks.pop();
         }
+    }
+}
+
+/// The same as a flat table of words, as the port's rank table is: for the bench's rows of new prefixes.
+#[cfg(feature = "flat")]
+#[derive(Default)]
+pub struct TieredVec32 {
+    words: RefCell<Vec<u64>>,
+}
+
+#[cfg(feature = "flat")]
+impl TieredVec32 {
+    pub fn new() -> Self {
+        Self::default()
+    }
+
+    pub fn len(&self) -> usize {
+        self.words.borrow().len()
+    }
+
+    pub fn is_empty(&self) -> bool {
+        self.len() == 0
+    }
+
+    pub fn get(&self, index: usize) -> u32 {
+        self.words.borrow()[index] as u32
+    }
+
+    pub fn insert(&self, index: usize, value: u32) {
+        self.words.borrow_mut().insert(index, u64::from(value));
+    }
+
+    pub fn remove(&self, index: usize) {
+        self.words.borrow_mut().remove(index);
     }
 }
