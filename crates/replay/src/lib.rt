@@ -1,4 +1,6 @@
-// What the programs that replay the oracle's answers share: the lines of numbers out of a text, and the tally of what was as recorded.
+// What the programs that replay the oracle's answers share: the lines of numbers out of a text, runs of words, walks, and the tally of what was as recorded.
 pub mod lines;
+pub mod runs;
 pub mod say;
 pub mod tally;
+pub mod walks;

@@ -33,3 +33,14 @@ pub fn row(name: &[u8], many: u64) {
     number(many);
     text(b" as recorded\n");
 }
+
+// The part of the table that lists.txt and trie.txt have in common: the cases, and the commands in them.
+pub fn commands(counts: &[u64; 100]) {
+    row(b"  case", counts[0]);
+    row(b"  lookup", counts[10]);
+    row(b"  insert", counts[11]);
+    row(b"  remove", counts[12]);
+    row(b"  lookup of a run", counts[20]);
+    row(b"  insert of a run", counts[21]);
+    row(b"  remove of a run", counts[22]);
+}

@@ -137,6 +137,14 @@ impl State {
         self
     }
 
+    // The same, but for so many lines that were passed over.
+    pub fn without(mut self, passed: u64) -> Self {
+        if passed <= self.lines {
+            self.lines -= passed;
+        }
+        self
+    }
+
     // What the whole comes to.
     pub fn verdict(self) {
         if self.wrong > 0 {
