@@ -92,10 +92,7 @@ fn first_window(region: &[u64], p: usize) -> Window
     if k > MANY {
         return spread(region, p, k);
     }
-    Window {
-        low: 0,
-        high: k,
-    }
+    Window { low: 0, high: k }
 }
 
 // How many prefixes below p are set.

@@ -55,9 +55,11 @@ module _ (l : List ℕ) (wf : WellFormed l) (c : ℕ) (h : c < numbers l .C) (k 
 
       pub take-gone : threshold + 1 < v .size c → {n m : ℕ} {l′ : List ℕ} → Settled c n used′ m (withLent l new) l′ → n + 1 ≡ v .size c → m + 1 ≡ g .count → (mem s ms ≡ true) × ReadsWith c (without s ms) l l′
       take-gone many st en em =
-          let len : suc (length (without s ms)) ≡ length ms = length-without s ms (ascending-distinct ms (ms-ascend l wf c h k)) was-there in
-          (was-there, reads-with l wf c h k became (omega arith) (omega (arith, ms-length l wf c h k)) (omega arith)
-          (good-without (g .S) s ms (ms-ascend l wf c h k) (ms-small l wf c h k)) st)
+          let len : suc (length (without s ms)) ≡ length ms = length-without s ms (ascending-distinct ms (ms-ascend l wf c h k)) was-there in (
+            was-there,
+            reads-with l wf c h k became (omega arith) (omega (arith, ms-length l wf c h k)) (omega arith)
+                (good-without (g .S) s ms (ms-ascend l wf c h k) (ms-small l wf c h k)) st,
+          )
 
     -- so many members are not the last one
     pub take-last : threshold + 1 < v .size c → {used′ : ℕ} → o ≡ Last used′ → ⊥

@@ -181,7 +181,14 @@ fn walk(region: &[u64]) {
 // K6, K7 and K9. The inserts go down, so that the order of K9 is not the order of the inserts.
 fn thresholds(region: &mut [u64]) {
     fresh(b"P=12, S=28, C=4, N=8", region, 28, 8);
-    row(b"K6 insert 1,023 down to 0: ", region, 1, 1023, u64::MAX, 1024);
+    row(
+        b"K6 insert 1,023 down to 0: ",
+        region,
+        1,
+        1023,
+        u64::MAX,
+        1024,
+    );
     walk(region);
     row(b"K7 insert 1,024: ", region, 1, 1024, 1, 1);
     walk(region);
@@ -205,7 +212,14 @@ fn absent(region: &mut [u64]) {
     row(b"K11 insert even 0 to 2,048: ", region, 1, 0, 2, 1025);
     row(b"K11 remove odd 1 to 2,049: ", region, 2, 1, 2, 1025);
     walk(region);
-    row(b"K11 insert suffix 7 under prefix 1: ", region, 1, (1 << 28) + 7, 1, 1);
+    row(
+        b"K11 insert suffix 7 under prefix 1: ",
+        region,
+        1,
+        (1 << 28) + 7,
+        1,
+        1,
+    );
     walk(region);
 }
 
@@ -285,7 +299,13 @@ fn cards(region: &[u64]) {
 fn delete_batch(region: &mut [u64]) {
     fresh(b"The ticket, P=12, S=28, C=4, N=24", region, 28, 24);
     frames(b"cache 2,000 raw keys of card 5: ", region, 1, 5, 0);
-    frames(b"delete the 2,000 sidecars of card 5, none cached: ", region, 2, 5, 1);
+    frames(
+        b"delete the 2,000 sidecars of card 5, none cached: ",
+        region,
+        2,
+        5,
+        1,
+    );
     frames(b"look up the 2,000 raw keys of card 5: ", region, 0, 5, 0);
 }
 
@@ -293,7 +313,13 @@ fn delete_batch(region: &mut [u64]) {
 fn next_card(region: &mut [u64]) {
     let first = [key(6, 101, 1, 0)];
     each(b"cache 101-0001 of card 6: ", region, 1, &first);
-    frames(b"look up the same 2,000 raw keys of card 6: ", region, 0, 6, 0);
+    frames(
+        b"look up the same 2,000 raw keys of card 6: ",
+        region,
+        0,
+        6,
+        0,
+    );
     cards(region);
 }
 
