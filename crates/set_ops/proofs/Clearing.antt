@@ -1,4 +1,4 @@
--- A cleared region is the fresh image of its own numbers, and reads as the empty set. Assumes nothing.
+-- A cleared region is the fresh image of its own numbers. Assumes nothing.
 use mathlib.Core.Path.{_≡_, sym, ap, _∙_, subst}
 use mathlib.Core.List.{List, _++_}
 use Prim.Native.Nat.{ℕ, _≤_}
@@ -31,17 +31,3 @@ module _ (l : List ℕ) (wf : WellFormed l) where
       ∙ ap (λ (S : ℕ). fresh (numbers l .P) S (g .c) (g .n) ++ drop (total (numbers l .P) (g .c) (g .n)) l) (o .s)
       ∙ ap (λ (C : ℕ). fresh (numbers l .P) (numbers l .S) C (g .n) ++ drop (total (numbers l .P) C (g .n)) l) (o .c)
       ∙ ap (λ (N : ℕ). fresh (numbers l .P) (numbers l .S) (numbers l .C) N ++ drop (total (numbers l .P) (numbers l .C) N) l) (o .n)
-
-  image-reads : ReadsAs l (empty (numbers l .P) (numbers l .S) (numbers l .C) (numbers l .N)) (freshAgain (reading l) l)
-  unfolding reading read empty
-  image-reads =
-      let g = numbers l in
-      record {
-        well-formed = fresh-well-formed (g .P) (g .S) (g .C) (g .N) (drop (total (g .P) (g .C) (g .N)) l) (wf .ready .header .ranges);
-        reads = fresh-reads (g .P) (g .S) (g .C) (g .N) (drop (total (g .P) (g .C) (g .N)) l);
-        past-stays = drop-at (fresh (g .P) (g .S) (g .C) (g .N)) (drop (total (g .P) (g .C) (g .N)) l) (total (g .P) (g .C) (g .N)) (fresh-length (g .P) (g .S) (g .C) (g .N));
-      }
-
-  -- the fresh image reads as the empty set
-  pub afresh : (n : List ℕ) → n ≡ freshAgain (reading l) l → ReadsAs l (empty (numbers l .P) (numbers l .S) (numbers l .C) (numbers l .N)) n
-  afresh n e = subst (ReadsAs l (empty (numbers l .P) (numbers l .S) (numbers l .C) (numbers l .N))) (sym e) image-reads

@@ -3,6 +3,7 @@ pub mod Lists
 pub mod Pouring
 pub mod Places
 pub mod Sources
+pub mod PourChunks
 pub mod Clearing
 pub mod AfreshNodes
 pub mod AfreshSlots
@@ -10,3 +11,7 @@ pub mod AfreshReads
 pub mod AfreshSteps
 pub mod Choosing
 pub mod Promise
+pub mod TakeSlots
+pub mod TakeLooks
+pub mod TakeRest
+pub mod TakeWhole

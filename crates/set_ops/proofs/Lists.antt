@@ -80,28 +80,6 @@ module _ (t : ℕ → Bool) (S : ℕ) (f : ℕ → Container) where
       ∙ ap (keep t) (words-append S (upTo f r) (upTo (λ i. f (r + i)) (k - r)))
       ∙ keep-append t (wordsOf S (upTo f r)) (wordsOf S (upTo (λ i. f (r + i)) (k - r)))
 
--- Whether a word is wanted, by the two tests
-
--- where both sorts of words are wanted, the word is
-pub both-wanted : (b x y : Bool) → x ≡ true → y ≡ true → true ≡ cond b x y
-both-wanted true x y e f = sym e
-both-wanted false x y e f = sym f
-
--- where the words of both sets are wanted, the lookup says
-pub common-wanted : (b x y r : Bool) → x ≡ true → y ≡ false → r ≡ b → r ≡ cond b x y
-common-wanted true x y r e f g = g ∙ sym e
-common-wanted false x y r e f g = g ∙ sym f
-
--- where the words that the other set lacks are wanted, the lookup says the opposite
-pub own-wanted : (b x y r : Bool) → x ≡ false → y ≡ true → r ≡ b → not r ≡ cond b x y
-own-wanted true x y r e f g = ap not g ∙ sym e
-own-wanted false x y r e f g = ap not g ∙ sym f
-
--- where none is wanted, the word is not
-pub none-wanted : (b x y : Bool) → x ≡ false → y ≡ false → false ≡ cond b x y
-none-wanted true x y e f = sym e
-none-wanted false x y e f = sym f
-
 -- Whether two sets agree, by two tests
 
 -- P differs

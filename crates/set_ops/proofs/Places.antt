@@ -67,34 +67,6 @@ module _ (l₀ : List ℕ) (wf : WellFormed l₀) (p : ℕ) (hp : p < 2 ^ number
       let a : 2 ^ numbers l₀ .P ≤ 2 ^ 24 = pow-mono (P-high l₀ wf) in
       (omega arith, (omega (arith, S-high l₀ wf), subst (λ (z : ℕ). getD ss i 0 < 2 ^ z) (sym eb) (hs i h)))
 
-  module _ (t : ℕ → Bool) (l : List ℕ) (at : Taking t (numbers l₀ .S) p ss l₀ l i) (w : ℕ) (ew : w ≡ joined bits p (getD ss i 0)) where
-    word-is : w ≡ joined (numbers l₀ .S) p (getD ss i 0)
-    word-is = ew ∙ ap (λ (z : ℕ). joined z p (getD ss i 0)) eb
-
-    -- what taking the next word asks
-    pub take-ready : (other : List ℕ) → WellFormed other → Alike other l₀ → WellFormed l × (WellFormed other × (Alike other l × (w < 2 ^ (numbers l .P + numbers l .S))))
-    take-ready other wo al =
-        let f : Framed l₀ l = ended-framed (qualifying t (numbers l₀ .S) p (take i ss)) (at .so-far) in
-        (f .well-formed, (wo, (framed-alike al f, framed-word w f (subst (λ (z : ℕ). z < 2 ^ (numbers l₀ .P + numbers l₀ .S)) (sym word-is) (word-small (numbers l₀ .P) (numbers l₀ .S) p (getD ss i 0) hp (hs i h))))))
-
-    -- one entry more
-    pub take-next : (ok : Bool) → ok ≡ true → (n : List ℕ) → PouredAs (keep t (w ∷ [])) l ok n → Taking t (numbers l₀ .S) p ss l₀ n (i + 1)
-    take-next ok e n g = let z : suc i ≡ i + 1 = omega arith in subst (Taking t (numbers l₀ .S) p ss l₀ n) z record {
-      upto = h;
-      so-far = next-poured (qualifying t (numbers l₀ .S) p (take i ss)) (keep t (w ∷ [])) (at .so-far) (qualifying t (numbers l₀ .S) p (take (suc i) ss)) (one-more t (numbers l₀ .S) p ss i w h word-is) (was-ended (keep t (w ∷ [])) l ok e n g);
-    }
-
-    -- a word that finds no room halts the strip
-    pub take-halt : (ok : Bool) → ok ≡ false → (n : List ℕ) → PouredAs (keep t (w ∷ [])) l ok n → Halted (pouring (qualifying t (numbers l₀ .S) p ss) l₀) l₀ n
-    take-halt ok e n g =
-        halt-poured (qualifying t (numbers l₀ .S) p (take i ss)) (keep t (w ∷ [])) (at .so-far) (qualifying t (numbers l₀ .S) p ss) (qualifying t (numbers l₀ .S) p (drop (suc i) ss))
-        (with-rest t (numbers l₀ .S) p ss (suc i) ∙ ap (λ (zs : List ℕ). zs ++ qualifying t (numbers l₀ .S) p (drop (suc i) ss)) (one-more t (numbers l₀ .S) p ss i w h word-is))
-        (was-halted (keep t (w ∷ [])) l ok e n g)
-
--- at the last entry the strip is done
-pub take-end : (t : ℕ → Bool) (S p : ℕ) (ss l₀ l : List ℕ) (i : ℕ) → Taking t S p ss l₀ l i → length ss ≤ i → Ended (pouring (qualifying t S p ss) l₀) l₀ l
-take-end t S p ss l₀ l i at h = subst (λ (zs : List ℕ). Ended (pouring (qualifying t S p zs) l₀) l₀ l) (take-all i ss h) (at .so-far)
-
 -- the destination stays as long as it was
 pub taking-long : {t : ℕ → Bool} {S p : ℕ} {ss l₀ l : List ℕ} {i : ℕ} → WellFormed l₀ → Taking t S p ss l₀ l i → length l ≡ length l₀
 taking-long {t} {S} {p} {ss} {l₀} {l} {i} wf at = ended-long (qualifying t S p (take i ss)) wf (at .so-far)
@@ -106,13 +78,6 @@ taking-framed {t} {S} {p} {ss} {l₀} {l} {i} at = ended-framed (qualifying t S 
 -- The chunks of a trie
 
 module _ (t : ℕ → Bool) (S p : ℕ) (ss l₀ l : List ℕ) (i n : ℕ) (at : Taking t S p ss l₀ l i) (ok : Bool) (m : List ℕ) (g : PouredAs (qualifying t S p (window i n ss)) l ok m) where
-  -- one chunk more
-  pub chunk-next : n < length ss - i → ok ≡ true → Taking t S p ss l₀ m (i + n)
-  chunk-next h e = record {
-    upto = omega arith;
-    so-far = next-poured (qualifying t S p (take i ss)) (qualifying t S p (window i n ss)) (at .so-far) (qualifying t S p (take (i + n) ss)) (chunk-more t S p ss i n) (was-ended (qualifying t S p (window i n ss)) l ok e m g);
-  }
-
   -- a chunk that finds no room halts the trie
   pub chunk-halt : ok ≡ false → Halted (pouring (qualifying t S p ss) l₀) l₀ m
   chunk-halt e =

@@ -140,18 +140,6 @@ put-old w {l} {m} o e h = one-poured w (subst (λ (x : Outcome). InsertedAs w l 
 pub put-full : (w : ℕ) {l m : List ℕ} → WellFormed l → (o : Outcome) → o ≡ NoRoom → InsertedAs w l o m → Halted (pouring (w ∷ []) l) l m
 put-full w {l} {m} wf o e h = one-halted w wf (subst (λ (x : Outcome). InsertedAs w l x m) e h)
 
--- a word that does not qualify is not inserted
-pub skip-one : (t : ℕ → Bool) (w : ℕ) {l : List ℕ} → WellFormed l → t w ≡ false → Ended (pouring (keep t (w ∷ [])) l) l l
-skip-one t w {l} wf e = subst (λ (b : Bool). Ended (pouring (cond b (w ∷ []) []) l) l l) (sym e) (none-poured wf)
-
--- and one that does is
-pub keep-one : (t : ℕ → Bool) (w : ℕ) (l : List ℕ) → t w ≡ true → (ok : Bool) (n : List ℕ) → PouredAs (w ∷ []) l ok n → PouredAs (keep t (w ∷ [])) l ok n
-keep-one t w l e ok n h = subst (λ (b : Bool). PouredAs (cond b (w ∷ []) []) l ok n) (sym e) h
-
--- a word of one set is a word of a set that is like it
-pub alike-word : {a l : List ℕ} (w : ℕ) → Alike a l → w < 2 ^ (numbers l .P + numbers l .S) → w < 2 ^ (numbers a .P + numbers a .S)
-alike-word {a} {l} w al h = subst (λ (k : ℕ). w < 2 ^ k) (sym (ap (λ (x : ℕ). x + numbers a .S) (al .P) ∙ ap (λ (x : ℕ). numbers l .P + x) (al .S))) h
-
 -- One list after another
 
 module _ (ws vs : List ℕ) {l m : List ℕ} (h : Ended (pouring ws l) l m) where

@@ -6,8 +6,10 @@ use mathlib.Core.List.{List, [], _∷_}
 use Prim.Native.Nat.{ℕ, zero, suc, _-_, _≤_, _<_}
 use native.Mathlib.Omega.{arith}
 use native.Mathlib.Decide.{ℕ-discrete}
+use lib.Dec.{eqb}
 use lib.ListN.{length, take, getD}
 use lib.Seq.{take-length}
+use borrow.Author.Tests.{eqb-true}
 use Rattle.lists.specs.Lists.{mem, Ascending, Distinct}
 use Rattle.lists.proofs.Laws.{over-trans}
 use Rattle.lists.proofs.Each.{Place, mem-upTo, upTo-mem, take-upTo, distinct-upTo}
@@ -18,6 +20,10 @@ place-before s xs k h m = mem-upTo s (λ i. getD xs i 0) k (ap (mem s) (sym (tak
 
 mem-before : (xs : List ℕ) (i k : ℕ) → i < k → k ≤ length xs → mem (getD xs i 0) (take k xs) ≡ true
 mem-before xs i k l h = ap (mem (getD xs i 0)) (take-upTo xs 0 k h) ∙ upTo-mem (λ i. getD xs i 0) k i l
+
+-- an entry before k that was looked at
+pub hit-before : (s : ℕ) (xs : List ℕ) (i k : ℕ) → i < k → k ≤ length xs → eqb (getD xs i 0) s ≡ true → mem s (take k xs) ≡ true
+hit-before s xs i k l h e = subst (λ (x : ℕ). mem x (take k xs) ≡ true) (eqb-true (getD xs i 0) s e) (mem-before xs i k l h)
 
 mem-getD : (xs : List ℕ) (i : ℕ) → i < length xs → mem (getD xs i 0) xs ≡ true
 mem-getD xs i l = ap (mem (getD xs i 0)) (sym (take-length xs)) ∙ mem-before xs i (length xs) l (omega arith)

@@ -1,9 +1,9 @@
 // Whether entries differ. Each entry leaves two marks; only where both of an entry's marks are there already are the entries before it searched.
 ghost use mathlib.Core.Path.{_≡_};
 ghost use mathlib.Core.Bool.{true, false};
-ghost use Prim.Native.Nat.{_≤_};
+ghost use Prim.Native.Nat.{_<_, _≤_};
 ghost use lib.ListN.{length, take};
-ghost use Rattle.lists.specs.Lists.{mem, Ascending, Distinct};
+ghost use Rattle.lists.specs.Lists.{mem, different, Ascending, Distinct};
 ghost use Rattle.strip.specs.Marks.{near, far, marked, Marks, Marking};
 use super::search;
 
@@ -118,4 +118,65 @@ pub fn distinct(entries: &[u64]) -> bool
     }
     let mut marks = [0u8; 16384];
     distinct_marked(entries, &mut marks)
+}
+
+// Whether x stands at place k, before place j.
+fn stands_at(entries: &[u64], j: usize, k: usize, x: u64) -> bool
+    requires { ⌜ j ≤ length (now entries) ⌝ }
+    ensures { λ r. ⌜ (r ≡ true → mem x (take j (now (entries .entry))) ≡ true) ⌝ }
+{
+    if k >= j {
+        return false;
+    }
+    entries[k] == x
+}
+
+// As repeats, but place k is looked at first.
+fn known(entries: &[u64], j: usize, marks: &[u8], k: usize, x: u64) -> bool
+    requires { ⌜ length (now marks) ≡ 16384 ⌝ }
+    requires { ⌜ (j ≤ length (now entries)) × Marks (now entries) j (now marks) ⌝ }
+    ensures { λ r. ⌜ r ≡ mem x (take j (now (entries .entry))) ⌝ }
+{
+    if stands_at(entries, j, k, x) {
+        return true;
+    }
+    repeats(entries, j, marks, x)
+}
+
+// The place of an entry's hint: a small table, so that little stack is used.
+fn hint_of(x: u64) -> usize
+    ensures { λ r. ⌜ r < 1024 ⌝ }
+{
+    (x % 1024) as usize
+}
+
+// By marks; an entry is counted where it stands first. A hint says where an entry with the same hint stood last, which spares most entries that repeat a search; a wrong one costs it.
+fn different_marked(entries: &[u64], marks: &mut [u8], hints: &mut [u16]) -> usize
+    requires { ⌜ length (now marks) ≡ 16384 ⌝ }
+    requires { ⌜ length (now hints) ≡ 1024 ⌝ }
+    ensures { λ r. ⌜ r ≡ different (now (entries .entry)) ⌝ }
+{
+    let mut n: usize = 0;
+    let mut i: usize = 0;
+    while i < entries.len() {
+        let x = entries[i];
+        let p = hint_of(x);
+        let seen = known(entries, i, marks, hints[p] as usize, x);
+        mark(marks, x);
+        hints[p] = (i % 65536) as u16;
+        i += 1;
+        if !seen {
+            n += 1;
+        }
+    }
+    n
+}
+
+// How many different entries there are.
+pub fn different(entries: &[u64]) -> usize
+    ensures { λ r. ⌜ r ≡ different (now (entries .entry)) ⌝ }
+{
+    let mut marks = [0u8; 16384];
+    let mut hints = [0u16; 1024];
+    different_marked(entries, &mut marks, &mut hints)
 }

@@ -1,22 +1,21 @@
--- How many nodes a strip of suffixes needs: the leading strings of a length are those that begin no later suffix, and they are no more than the suffixes. Assumes nothing.
+-- How many nodes a strip of suffixes needs: the leading strings of a length are written one by one, and they are no more than the suffixes. Assumes nothing.
 use Prim.Native.Nat.{ℕ, zero, suc, _+_, _-_, _*_, _/_, _^_, _≤_, _<_}
 use mathlib.Core.Path.{_≡_, refl, sym, ap, _∙_, subst}
-use mathlib.Core.Bool.{Bool, true, false, false≢true}
-use mathlib.Core.List.{List, [], _∷_, map}
+use mathlib.Core.Bool.{true, false, false≢true}
+use mathlib.Core.List.{List, [], _∷_, _++_, map}
 use native.Mathlib.Omega.{arith}
 use native.Mathlib.Nat.{suc-mul, div-eq-of-lt, sub-zero, mul-le-mul-right}
 use native.Mathlib.Numerals.{add-one}
 use lib.Dec.{eqb}
-use lib.ListN.{length, drop, getD}
-use lib.Seq.{drop-cons, drop-length}
-use borrow.Author.Tests.{eqb-true, eq-eqb, ne-eqb}
+use lib.ListN.{length, take, drop, getD, set, length-map}
+use lib.Seq.{take-all}
+use borrow.Author.Tests.{eqb-true, eq-eqb}
 use Rattle.lists.specs.Lists.{mem, sorted, different}
 use Rattle.lists.specs.Sums.{sum}
-use Rattle.lists.proofs.Laws.{or-left, or-cases, eqb-self, mem-map, Source, source, mem-sorted, ascending-sorted, distinct-sorted, length-within, different-within}
+use Rattle.lists.proofs.Laws.{or-left, or-cases, eqb-self, mem-map, Source, source, mem-sorted, distinct-sorted, length-within, different-within}
 use Rattle.model.specs.Room.{leading, trieNodes}
-use Rattle.model.proofs.ContainerLaws.{length-put-new, length-put-old}
 use Rattle.region.proofs.Bytes.{pow-bytes}
-use Rattle.trie.proofs.Room.{different-new, different-old}
+use Rattle.strip.proofs.StoreLaws.{copy-more, copied-front}
 
 -- the leading j of b bytes
 abbrev pub headOf : ℕ → ℕ → ℕ → ℕ
@@ -25,50 +24,35 @@ headOf b j s = s / 256 ^ (b - j)
 pub shifted : (s k : ℕ) → s / 2 ^ (8 * k) ≡ s / 256 ^ k
 shifted s k = ap (λ (z : ℕ). s / z) (sym (pow-bytes k))
 
-module _ (strip : List ℕ) (f : ℕ → ℕ) where
-  -- from place i on
-  abbrev from : ℕ → List ℕ
-  from i = map f (drop i strip)
+map-at : (f : ℕ → ℕ) (xs : List ℕ) (i : ℕ) → i < length xs → getD (map f xs) i 0 ≡ f (getD xs i 0)
+map-at f [] i l = absurd (omega arith)
+map-at f (x ∷ xs) zero l = refl
+map-at f (x ∷ xs) (suc i) l = map-at f xs i (omega arith)
 
-  from-cons : (i : ℕ) → i < length strip → from i ≡ f (getD strip i 0) ∷ from (i + 1)
-  from-cons i h = rw (add-one, drop-cons strip i 0) refl
+-- one suffix more is written
+pub lead-more : (f : ℕ → ℕ) (strip out₀ out : List ℕ) (i x : ℕ) → i < length strip → length strip ≤ length out₀ → out ≡ take i (map f strip) ++ drop i out₀ → x ≡ f (getD strip i 0) → set out i x ≡ take (i + 1) (map f strip) ++ drop (i + 1) out₀
+lead-more f strip out₀ out i x l h e q =
+    let n = length-map strip f in
+    rw add-one (ap (λ (ys : List ℕ). set ys i x) e
+    ∙ ap (set (take i (map f strip) ++ drop i out₀) i) (q ∙ sym (map-at f strip i l))
+    ∙ copy-more out₀ (map f strip) i (omega arith) (omega arith))
 
-  pub none-left : (x k : ℕ) → length strip ≤ k → k ≤ length strip → mem x (from k) ≡ false
-  none-left x k h g = let e : k ≡ length strip = omega arith in rw (e, drop-length) refl
-
-  pub found-later : (x k y : ℕ) → k < length strip → y ≡ f (getD strip k 0) → y ≡ x → mem x (from k) ≡ true
-  found-later x k y h e q = ap (mem x) (from-cons k h) ∙ or-left (eqb x (f (getD strip k 0))) (mem x (from (k + 1))) (eq-eqb x (f (getD strip k 0)) (sym q ∙ e))
-
-  pub not-here : (x k y : ℕ) → k < length strip → y ≡ f (getD strip k 0) → (y ≡ x → ⊥) → mem x (from k) ≡ mem x (from (k + 1))
-  not-here x k y h e q = ap (mem x) (from-cons k h) ∙ rw (ne-eqb x (f (getD strip k 0)) (λ z. q (e ∙ sym z))) refl
-
-  one-more : (i : ℕ) (r : Bool) → i < length strip → r ≡ mem (f (getD strip i 0)) (from (i + 1)) → r ≡ false → different (from i) ≡ different (from (i + 1)) + 1
-  one-more i r h e q = ap different (from-cons i h) ∙ different-new (f (getD strip i 0)) (from (i + 1)) (sym e ∙ q) ∙ sym (add-one (different (from (i + 1))))
-
-  no-more : (i : ℕ) (r : Bool) → i < length strip → r ≡ mem (f (getD strip i 0)) (from (i + 1)) → r ≡ true → different (from i) ≡ different (from (i + 1))
-  no-more i r h e q = ap different (from-cons i h) ∙ different-old (f (getD strip i 0)) (from (i + 1)) (sym e ∙ q)
-
-  pub counted : (n i k : ℕ) (r : Bool) → k ≡ i + 1 → i < length strip → n ≡ different (from k) → r ≡ mem (f (getD strip i 0)) (from (i + 1)) → r ≡ false → n + 1 ≡ different (from i)
-  counted n i k r e h q m z = let a : different (from k) ≡ different (from (i + 1)) = ap (λ (u : ℕ). different (from u)) e in let b = one-more i r h m z in omega arith
-
-  pub passed : (n i k : ℕ) (r : Bool) → k ≡ i + 1 → i < length strip → n ≡ different (from k) → r ≡ mem (f (getD strip i 0)) (from (i + 1)) → r ≡ true → n ≡ different (from i)
-  passed n i k r e h q m z = q ∙ ap (λ (u : ℕ). different (from u)) e ∙ sym (no-more i r h m z)
-
-  -- the answer for suffix i, where what is left to look at is from place k on
-  pub told : (i x k : ℕ) (r : Bool) → x ≡ f (getD strip i 0) → mem x (from k) ≡ mem x (from (i + 1)) → mem x (from k) ≡ r → r ≡ mem (f (getD strip i 0)) (from (i + 1))
-  told i x k r ex same e = sym e ∙ same ∙ ap (λ (z : ℕ). mem z (from (i + 1))) ex
-
-  pub none-from : (k : ℕ) → length strip ≤ k → k ≤ length strip → different (from k) ≡ 0
-  none-from k h g = let e : k ≡ length strip = omega arith in rw (e, drop-length) refl
-
-length-map : (f : ℕ → ℕ) (xs : List ℕ) → length (map f xs) ≡ length xs
-length-map f [] = refl
-length-map f (x ∷ xs) = ap suc (length-map f xs)
+-- at the end all are
+pub lead-all : (f : ℕ → ℕ) (strip out₀ out : List ℕ) (i : ℕ) → i ≤ length strip → length strip ≤ i → out ≡ take i (map f strip) ++ drop i out₀ → take (length strip) out ≡ map f strip
+lead-all f strip out₀ out i h l e =
+    let n = length-map strip f in
+    ap (take (length strip)) e ∙ copied-front (map f strip) (drop i out₀) i (length strip) (omega arith) (omega arith) ∙ take-all (length strip) (map f strip) (omega arith)
 
 pub different-few : (f : ℕ → ℕ) (xs : List ℕ) → different (map f xs) ≤ length xs
 different-few f xs =
     let a = length-within (sorted (map f xs)) (map f xs) (distinct-sorted (map f xs)) (λ z m. sym (mem-sorted z (map f xs)) ∙ m) in
-    let b = length-map f xs in omega arith
+    let b = length-map xs f in omega arith
+
+-- the count of what was written
+pub heads-told : (f : ℕ → ℕ) (strip out : List ℕ) (n k : ℕ) → n ≡ different (take k out) → k ≡ length strip → take (length strip) out ≡ map f strip → (n ≡ different (map f strip)) × (n ≤ length strip)
+heads-told f strip out n k e q w =
+    let a : n ≡ different (map f strip) = e ∙ ap (λ (m : ℕ). different (take m out)) q ∙ ap different w in
+    let b = different-few f strip in (a, omega arith)
 
 pub all-small : (B : ℕ) (xs : List ℕ) → ((i : ℕ) → i < length xs → getD xs i 0 < B) → (x : ℕ) → mem x xs ≡ true → x < B
 all-small B [] h x m = absurd (false≢true m)
@@ -111,9 +95,6 @@ module _ (b : ℕ) (strip : List ℕ) (some : 1 ≤ length strip) (small : (i : 
   at-most hb =
       let e : suc (b - 1) ≡ b = omega arith in
       subst (λ (z : ℕ). sum (leading b strip) z ≤ 1 + (b - 1) * length strip) e (sum-bound (length strip) (b - 1) (λ j. different-few (headOf b j) strip))
-
-pub from-first : (f : ℕ → ℕ) (strip : List ℕ) (n i : ℕ) → n ≡ different (map f (drop i strip)) → i ≤ 0 → n ≡ different (map f strip)
-from-first f strip n i e h = let q : i ≡ 0 = omega arith in e ∙ ap (λ (k : ℕ). different (map f (drop k strip))) q
 
 pub sum-next : (f : ℕ → ℕ) (n j h : ℕ) → n ≡ sum f j → h ≡ f j → n + h ≡ sum f (j + 1)
 unfolding sum

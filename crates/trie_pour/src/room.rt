@@ -1,11 +1,11 @@
 // How many nodes some suffixes need, and whether that many are there.
 ghost use mathlib.Core.Path.{_≡_};
 ghost use mathlib.Core.List.{map};
-ghost use Prim.Native.Nat.{ℕ, _+_, _-_, _*_, _/_, _^_, _<_, _≤_};
+ghost use Prim.Native.Nat.{ℕ, _-_, _*_, _/_, _^_, _<_, _≤_};
 ghost use lib.Dec.{leb};
-ghost use lib.ListN.{length, drop, getD};
-ghost use Rattle.lists.specs.Lists.{mem};
+ghost use lib.ListN.{length, take, getD};
 ghost use Rattle.model.specs.Room.{leading, trieNodes};
+use strip::differ;
 
 // The leading j of the b bytes of a suffix.
 fn lead(s: u64, b: usize, j: usize) -> u64
@@ -17,23 +17,19 @@ fn lead(s: u64, b: usize, j: usize) -> u64
     s >> (8 * (b - j))
 }
 
-// Whether a later suffix begins with the same j bytes as suffix i.
-fn again(strip: &[u64], b: usize, j: usize, i: usize) -> bool
+// The leading j bytes of each suffix, over the first words of an array.
+fn leads(strip: &[u64], b: usize, j: usize, out: &mut [u64])
     requires { ⌜ 1 ≤ j ⌝ }
     requires { ⌜ j ≤ b ⌝ }
     requires { ⌜ b ≤ 5 ⌝ }
-    requires { ⌜ i < length (now strip) ⌝ }
-    ensures { λ r. ⌜ r ≡ mem (getD (now (strip .entry)) i 0 / 256 ^ (b - j)) (map (λ s. s / 256 ^ (b - j)) (drop (i + 1) (now (strip .entry)))) ⌝ }
+    requires { ⌜ length (now strip) ≤ length (now out) ⌝ }
+    ensures { λ _. ⌜ take (length (now (strip .entry))) (now (out .exit)) ≡ map (λ s. s / 256 ^ (b - j)) (now (strip .entry)) ⌝ }
 {
-    let x = lead(strip[i], b, j);
-    let mut k = i + 1;
-    while k < strip.len() {
-        if lead(strip[k], b, j) == x {
-            return true;
-        }
-        k += 1;
+    let mut i: usize = 0;
+    while i < strip.len() {
+        out[i] = lead(strip[i], b, j);
+        i += 1;
     }
-    false
 }
 
 // How many different leading strings of j bytes the suffixes have.
@@ -41,18 +37,13 @@ fn heads(strip: &[u64], b: usize, j: usize) -> usize
     requires { ⌜ 1 ≤ j ⌝ }
     requires { ⌜ j ≤ b ⌝ }
     requires { ⌜ b ≤ 5 ⌝ }
+    requires { ⌜ length (now strip) ≤ 1025 ⌝ }
     ensures is { λ r. ⌜ r ≡ leading b (now (strip .entry)) j ⌝ }
     ensures few { λ r. ⌜ r ≤ length (now (strip .entry)) ⌝ }
 {
-    let mut n: usize = 0;
-    let mut i = strip.len();
-    while i > 0 {
-        i -= 1;
-        if !again(strip, b, j, i) {
-            n += 1;
-        }
-    }
-    n
+    let mut out = [0u64; 1025];
+    leads(strip, b, j, &mut out);
+    differ::different(&out[0..strip.len()])
 }
 
 // The nodes that the suffixes need: the root, and for each length below b their different leading strings.

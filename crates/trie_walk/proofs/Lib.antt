@@ -1,5 +1,6 @@
 pub mod Pours
 pub mod Behind
+pub mod Onward
 pub mod Numbers
 pub mod Copies
 pub mod Levels

@@ -10,9 +10,10 @@ use lib.ListN.{length, getD, drop, set}
 use lib.Seq.{drop-nil}
 use Rattle.region.specs.Bits.{wordBit}
 use Rattle.bitvector.specs.Maps.{Lowest}
-use Rattle.trie_walk.specs.Pour.{state, poured}
+use Rattle.trie_walk.specs.Pour.{state, poured, notBelow}
 use Rattle.trie_walk.specs.Words.{behind, numbersIn, behindAll, suffixes}
-use Rattle.trie_walk.proofs.Pours.{poured-append, poured-put, poured-past, poured-over}
+use Rattle.trie_walk.proofs.Pours.{poured-put, poured-past, poured-over}
+use Rattle.trie_walk.proofs.Onward.{onward-append}
 use Rattle.trie_walk.proofs.Behind.{behind-none, behind-same, behind-first, behind-length}
 
 -- w's lowest set bit is k, and r is w without it
@@ -84,11 +85,11 @@ abbrev pub suffixesFrom : List ℕ → List ℕ → ℕ → ℕ → List ℕ
 suffixesFrom maps leads n e = behindAll (λ j. getD maps j 0) (λ x. (getD leads (x / 256) 0 * 256 + x % 256) ∷ []) e (n - e)
 
 -- those of word e, and then those of the words behind it
-pub next-suffixes : (maps leads : List ℕ) (e n s i : ℕ) (o : List ℕ) → e < n
-    → poured (suffixesFrom maps leads n e) (state s i o) ≡ poured (suffixesFrom maps leads n (e + 1)) (poured (numbersIn (getD maps e 0) (getD leads (e / 4) 0 * 256 + e % 4 * 64)) (state s i o))
-next-suffixes maps leads e n s i o h =
-    ap (λ (xs : List ℕ). poured xs (state s i o)) (next-word ws g e n h ∙ ap (λ (xs : List ℕ). xs ++ rest) (behind-same (getD maps e 0) (λ k. (base + k) ∷ []) (λ k. g (e * 64 + k)) same))
-    ∙ poured-append (numbersIn (getD maps e 0) base) rest (state s i o)
+pub next-suffixes : (maps leads : List ℕ) (from e n s i : ℕ) (o : List ℕ) → e < n
+    → poured (notBelow from (suffixesFrom maps leads n e)) (state s i o) ≡ poured (notBelow from (suffixesFrom maps leads n (e + 1))) (poured (notBelow from (numbersIn (getD maps e 0) (getD leads (e / 4) 0 * 256 + e % 4 * 64))) (state s i o))
+next-suffixes maps leads from e n s i o h =
+    ap (λ (xs : List ℕ). poured (notBelow from xs) (state s i o)) (next-word ws g e n h ∙ ap (λ (xs : List ℕ). xs ++ rest) (behind-same (getD maps e 0) (λ k. (base + k) ∷ []) (λ k. g (e * 64 + k)) same))
+    ∙ onward-append from (numbersIn (getD maps e 0) base) rest (state s i o)
   where
     ws : ℕ → ℕ
     ws j = getD maps j 0

@@ -13,10 +13,11 @@ use Rattle.region.specs.Nodes.{Nodes}
 use Rattle.region.specs.Tries.{listed, members}
 use Rattle.region.proofs.Bytes.{pow-bytes}
 use Rattle.arena.specs.Arena.{Tries, Root, nodesIn}
-use Rattle.trie_walk.specs.Pour.{Pour, state, poured, window}
+use Rattle.trie_walk.specs.Pour.{Pour, state, poured, notBelow, window}
 use Rattle.trie_walk.specs.Batch.{Left, Batch, allListed}
 use Rattle.trie_walk.proofs.Pours.{poured-over, poured-window}
 use Rattle.trie_walk.proofs.Behind.{each-few}
+use Rattle.trie_walk.proofs.Onward.{all-kept}
 
 module _ (nodes leads : List ℕ) (n : ℕ) (en : getD nodes 0 0 ≡ n) (el : getD leads 0 0 ≡ 0) where
   pub root-batch : (N b : ℕ) (l : List ℕ) → Tries N b l → Root (nodesIn N l) N n → 1 ≤ b → b ≤ 5 → Batch N b 1 nodes leads l
@@ -61,10 +62,10 @@ members-few v b n h =
     omega (arith, pow-bytes b)
 
 -- what is passed over, where as many as a number can say would be
-pub counted : (v : Nodes) (b n s i : ℕ) (o o′ : List ℕ) → b ≤ 5 → state s i o ≡ poured (members v b n) (state (2 ^ 64 - 1) 0 o′) → (2 ^ 64 - 1) - s ≡ length (members v b n)
+pub counted : (v : Nodes) (b n s i : ℕ) (o o′ : List ℕ) → b ≤ 5 → state s i o ≡ poured (notBelow 0 (members v b n)) (state (2 ^ 64 - 1) 0 o′) → (2 ^ 64 - 1) - s ≡ length (members v b n)
 counted v b n s i o o′ h e =
     let f : length (members v b n) < 2 ^ 64 = members-few v b n h in
-    let k : s ≡ (2 ^ 64 - 1) - length (members v b n) = ap (λ (p : Pour). p .skip) (e ∙ poured-over (members v b n) (2 ^ 64 - 1) 0 o′ (omega arith)) in
+    let k : s ≡ (2 ^ 64 - 1) - length (members v b n) = ap (λ (p : Pour). p .skip) (e ∙ ap (λ (xs : List ℕ). poured xs (state (2 ^ 64 - 1) 0 o′)) (all-kept (members v b n)) ∙ poured-over (members v b n) (2 ^ 64 - 1) 0 o′ (omega arith)) in
     omega arith
 
 -- without room nothing is written
@@ -72,5 +73,11 @@ pub no-room : (start : ℕ) (xs o : List ℕ) → length o ≡ 0 → (0 ≡ leng
 no-room start xs [] e = (refl, refl)
 no-room start xs (x ∷ o) e = absurd (omega arith)
 
+-- what was poured from the first place on
 pub written : (start s i : ℕ) (xs o o′ : List ℕ) → state s i o′ ≡ poured xs (state start 0 o) → (i ≡ length (window start (length o) xs)) × (o′ ≡ window start (length o) xs ++ drop (length (window start (length o) xs)) o)
 written start s i xs o o′ e = let q = e ∙ poured-window xs start o in (ap (λ (p : Pour). p .at) q, ap (λ (p : Pour). p .out) q)
+
+-- the same, where no bound was set
+pub written-all : (start s i : ℕ) (xs o o′ : List ℕ) → state s i o′ ≡ poured (notBelow 0 xs) (state start 0 o)
+    → (i ≡ length (window start (length o) xs)) × (o′ ≡ window start (length o) xs ++ drop (length (window start (length o) xs)) o)
+written-all start s i xs o o′ e = written start s i xs o o′ (e ∙ ap (λ (ys : List ℕ). poured ys (state start 0 o)) (all-kept xs))

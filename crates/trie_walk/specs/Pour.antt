@@ -2,12 +2,17 @@
 use Prim.Native.Nat.{ℕ, zero, suc}
 use mathlib.Core.Bool.{cond}
 use mathlib.Core.List.{List, [], _∷_}
-use lib.Dec.{ltb}
+use lib.Dec.{leb, ltb}
 use lib.ListN.{length, take, drop, set}
+use Rattle.lists.specs.Lists.{keep}
 
 -- at most len values of a list, from the one with number start on
 abbrev pub window : ℕ → ℕ → List ℕ → List ℕ
 window start len xs = take len (drop start xs)
+
+-- the values of a list that are not below `from`
+abbrev pub notBelow : ℕ → List ℕ → List ℕ
+notBelow from xs = keep (λ s. leb from s) xs
 
 -- how many values are still to be passed over, the place for the next one, and the output
 pub record Pour : Type 0 where

@@ -1,11 +1,13 @@
 // The walk below up to 32 nodes of one level at a time. Nodes lie far apart: their maps are fetched together, so that the waits for memory overlap.
 ghost use mathlib.Core.Path.{_≡_};
+ghost use mathlib.Core.Bool.{cond};
 ghost use Prim.Native.Nat.{ℕ, _+_, _*_, _/_, _%_, _^_, _<_, _≤_};
+ghost use lib.Dec.{leb};
 ghost use lib.ListN.{length, drop, getD, set};
 ghost use Rattle.region.specs.Geometry.{nodeWords};
 ghost use Rattle.region.specs.Nodes.{nodeWord};
 ghost use Rattle.arena.specs.Arena.{nodesIn};
-ghost use Rattle.trie_walk.specs.Pour.{state, poured};
+ghost use Rattle.trie_walk.specs.Pour.{state, poured, notBelow};
 ghost use Rattle.trie_walk.specs.Batch.{Batch, Copied, allListed};
 use super::Step;
 use super::words;
@@ -41,32 +43,38 @@ fn gather(arena: &[u64], slots: usize, nodes: &[u64; 32], count: usize, maps: &m
     }
 }
 
-// Puts the child behind place x of the maps, and its leading bytes, at place c.
+// Puts the child behind place x of the maps, and its leading bytes, at place c, unless they are below `bound`. Answers the next place.
 fn push(
     arena: &[u64],
     slots: usize,
     nodes: &[u64; 32],
     leads: &[u64; 32],
     x: usize,
+    bound: u64,
     children: &mut [u64; 32],
     behind: &mut [u64; 32],
     c: usize,
-)
+) -> usize
     requires { ⌜ length (now arena) ≡ slots + nodeWords * slots ⌝ }
     requires { ⌜ x < 32 * 256 ⌝ }
     requires { ⌜ getD (now nodes) (x / 256) 0 < slots ⌝ }
     requires { ⌜ getD (now leads) (x / 256) 0 < 2 ^ 32 ⌝ }
     requires { ⌜ c < 32 ⌝ }
-    ensures child { λ _. ⌜ now (children .exit) ≡ set (now (children .entry)) c (nodesIn slots (now (arena .entry)) .child (getD (now (nodes .entry)) (x / 256) 0) (x % 256)) ⌝ }
-    ensures lead { λ _. ⌜ now (behind .exit) ≡ set (now (behind .entry)) c (getD (now (leads .entry)) (x / 256) 0 * 256 + x % 256) ⌝ }
+    ensures next { λ r. ⌜ r ≡ cond (leb bound (getD (now (leads .entry)) (x / 256) 0 * 256 + x % 256)) (c + 1) c ⌝ }
+    ensures child { λ _. ⌜ now (children .exit) ≡ cond (leb bound (getD (now (leads .entry)) (x / 256) 0 * 256 + x % 256)) (set (now (children .entry)) c (nodesIn slots (now (arena .entry)) .child (getD (now (nodes .entry)) (x / 256) 0) (x % 256))) (now (children .entry)) ⌝ }
+    ensures lead { λ _. ⌜ now (behind .exit) ≡ cond (leb bound (getD (now (leads .entry)) (x / 256) 0 * 256 + x % 256)) (set (now (behind .entry)) c (getD (now (leads .entry)) (x / 256) 0 * 256 + x % 256)) (now (behind .entry)) ⌝ }
 {
     let i = x / 256;
-    let n = nodes[i] as usize;
-    children[c] = read::child(arena, slots, n, x % 256);
-    behind[c] = leads[i] * 256 + (x % 256) as u64;
+    let lead = leads[i] * 256 + (x % 256) as u64;
+    if lead < bound {
+        return c;
+    }
+    children[c] = read::child(arena, slots, nodes[i] as usize, x % 256);
+    behind[c] = lead;
+    c + 1
 }
 
-// The suffixes below the first `count` nodes, which have d levels left, each behind its leading bytes.
+// The suffixes below the first `count` nodes, which have d levels left, each behind its leading bytes, that are not below `from`.
 pub(crate) fn below(
     arena: &[u64],
     slots: usize,
@@ -74,19 +82,22 @@ pub(crate) fn below(
     nodes: &[u64; 32],
     leads: &[u64; 32],
     count: usize,
+    from: u64,
     skip: usize,
     out: &mut [u64],
     at: usize,
 ) -> Step
     requires { ⌜ Batch slots d count (now nodes) (now leads) (now arena) ⌝ }
     requires { ⌜ count ≤ 32 ⌝ }
-    ensures { λ r. ⌜ state (r .skip) (r .at) (now (out .exit)) ≡ poured (allListed (nodesIn slots (now (arena .entry))) d (now (nodes .entry)) (now (leads .entry)) count) (state skip at (now (out .entry))) ⌝ }
+    ensures { λ r. ⌜ state (r .skip) (r .at) (now (out .exit)) ≡ poured (notBelow from (allListed (nodesIn slots (now (arena .entry))) d (now (nodes .entry)) (now (leads .entry)) count)) (state skip at (now (out .entry))) ⌝ }
 {
     let mut maps = [0u64; 128];
     gather(arena, slots, nodes, count, &mut maps);
     if d == 1 {
-        return words::last(&maps, leads, count, skip, out, at);
+        return words::last(&maps, leads, count, from, skip, out, at);
     }
+    // A child whose leading bytes are below these has suffixes below `from` alone.
+    let bound = from >> (8 * (d - 1));
     let mut children = [0u64; 32];
     let mut behind = [0u64; 32];
     let mut c = 0;
@@ -102,7 +113,18 @@ pub(crate) fn below(
         e += 1;
         while w != 0 {
             if c == 32 {
-                let s = below(arena, slots, d - 1, &children, &behind, c, skip, out, at);
+                let s = below(
+                    arena,
+                    slots,
+                    d - 1,
+                    &children,
+                    &behind,
+                    c,
+                    from,
+                    skip,
+                    out,
+                    at,
+                );
                 skip = s.skip;
                 at = s.at;
                 c = 0;
@@ -114,20 +136,31 @@ pub(crate) fn below(
                 }
             } else {
                 let k = word::lowest(w);
-                push(
+                c = push(
                     arena,
                     slots,
                     nodes,
                     leads,
                     p + k,
+                    bound,
                     &mut children,
                     &mut behind,
                     c,
                 );
-                c += 1;
                 w = word::without(w, k);
             }
         }
     }
-    below(arena, slots, d - 1, &children, &behind, c, skip, out, at)
+    below(
+        arena,
+        slots,
+        d - 1,
+        &children,
+        &behind,
+        c,
+        from,
+        skip,
+        out,
+        at,
+    )
 }

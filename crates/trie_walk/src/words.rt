@@ -2,7 +2,7 @@
 ghost use mathlib.Core.Path.{_≡_};
 ghost use Prim.Native.Nat.{ℕ, _+_, _*_, _^_, _<_, _≤_};
 ghost use lib.ListN.{drop, getD};
-ghost use Rattle.trie_walk.specs.Pour.{state, poured};
+ghost use Rattle.trie_walk.specs.Pour.{state, poured, notBelow};
 ghost use Rattle.trie_walk.specs.Words.{numbersIn, suffixes};
 use super::Step;
 use bitvector::word;
@@ -59,18 +59,33 @@ fn pour(w: u64, base: u64, skip: usize, out: &mut [u64], at: usize) -> Step
     Step { skip: 0, at: end }
 }
 
-// The suffixes of `count` nodes of the last level with these maps, behind their leading bytes.
+// w without the bits whose numbers, counted from base on, are below `from`.
+fn not_below(w: u64, base: u64, from: u64) -> u64
+    ensures { λ r. ⌜ numbersIn r base ≡ notBelow from (numbersIn w base) ⌝ }
+{
+    if from <= base {
+        return w;
+    }
+    let k = from - base;
+    if k >= 64 {
+        return 0;
+    }
+    w >> k << k
+}
+
+// The suffixes of `count` nodes of the last level with these maps, behind their leading bytes, that are not below `from`.
 pub(crate) fn last(
     maps: &[u64; 128],
     leads: &[u64; 32],
     count: usize,
+    from: u64,
     skip: usize,
     out: &mut [u64],
     at: usize,
 ) -> Step
     requires { ⌜ count ≤ 32 ⌝ }
     requires { ⌜ ((i : ℕ) → i < count → getD (now leads) i 0 < 2 ^ 32) ⌝ }
-    ensures { λ r. ⌜ state (r .skip) (r .at) (now (out .exit)) ≡ poured (suffixes (now (maps .entry)) (now (leads .entry)) count) (state skip at (now (out .entry))) ⌝ }
+    ensures { λ r. ⌜ state (r .skip) (r .at) (now (out .exit)) ≡ poured (notBelow from (suffixes (now (maps .entry)) (now (leads .entry)) count)) (state skip at (now (out .entry))) ⌝ }
 {
     let mut skip = skip;
     let mut at = at;
@@ -80,7 +95,8 @@ pub(crate) fn last(
         if w == 0 {
             e += 1;
         } else {
-            let s = pour(w, leads[e / 4] * 256 + ((e % 4) as u64) * 64, skip, out, at);
+            let base = leads[e / 4] * 256 + ((e % 4) as u64) * 64;
+            let s = pour(not_below(w, base, from), base, skip, out, at);
             skip = s.skip;
             at = s.at;
             e += 1;

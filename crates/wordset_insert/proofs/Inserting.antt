@@ -5,18 +5,20 @@ use mathlib.Core.Logic.{_≢_}
 use mathlib.Core.Bool.{Bool, true, false}
 use mathlib.Core.List.{List, [], _∷_, _++_}
 use native.Mathlib.Omega.{arith}
+use lib.Arith.{digits-lt}
+use lib.Pow.{pow-add}
 use lib.Dec.{eqb}
 use lib.ListN.{length, length-append}
 use borrow.Author.Tests.{eqb-false, eq-eqb, ne-eqb, lt-ltb, le-ltb, lt-leb}
 use Rattle.lists.specs.Lists.{mem, put, sorted, upTo}
 use Rattle.lists.proofs.Laws.{by-test, mem-sorted, same-within}
 use Rattle.lists.proofs.Each.{length-upTo}
-use Rattle.model.specs.Words.{prefixOf, suffixOf, bytesOf}
+use Rattle.model.specs.Words.{prefixOf, suffixOf, joined, bytesOf}
 use Rattle.model.specs.Room.{threshold, isTrie, trieNodes, containerNodes, fits}
 use Rattle.model.specs.Reading.{Reading, walk, has, nodesInUse}
 use Rattle.model.specs.Change.{added, placed, top, rest, with, insert}
 use Rattle.model.specs.Good.{Good, GoodSuffixes}
-use Rattle.model.proofs.ContainerLaws.{suffix-lt}
+use Rattle.model.proofs.ContainerLaws.{suffix-lt, prefix-joined, suffix-joined, joined-parts}
 use Rattle.model.proofs.RoomLaws.{trie-within, fits-same}
 use Rattle.model.proofs.StoredLaws.{appended, put-above}
 use Rattle.model.proofs.Steps.{insert-new, members-insert, containers⁺, free⁺}
@@ -25,7 +27,7 @@ use Rattle.region.specs.Areas.{Numbers, numbers}
 use Rattle.region.specs.Tries.{members}
 use Rattle.region.specs.Seen.{Seen, seen}
 use Rattle.region.specs.Read.{suffixes, read, reading}
-use Rattle.region.specs.WellFormed.{rankOf, WellFormed}
+use Rattle.region.specs.WellFormed.{rankOf, Ranked, WellFormed}
 use Rattle.region.proofs.SeenBits.{seen-bits}
 use Rattle.region.proofs.Facts.{good, reads-good, reads-nodes}
 use Rattle.promises.specs.Reads.{ReadsAs}
@@ -83,6 +85,29 @@ parted wf w small bits eb p s ep es = record {
   prefix-is = ep ∙ ap (λ (z : ℕ). prefixOf z w) eb;
   suffix-is = es ∙ ap (λ (z : ℕ). suffixOf z w) eb;
 }
+
+-- the word of a slot's prefix and a suffix, and its parts
+module _ {l : List ℕ} (wf : WellFormed l) {c : ℕ} (h : c < numbers l .C) (u : seen (numbers l) l .kind c ≢ 0) where
+  stands : Ranked (numbers l) (seen (numbers l) l) c
+  stands = wf .shape .placed .ranked c h u
+
+  -- the slot's prefix is set
+  pub stands-set : seen (numbers l) l .bit (seen (numbers l) l .prefix c) ≡ 1
+  stands-set = stands .is-set
+
+  -- and the slot stands at its rank
+  pub stands-there : c ≡ seen (numbers l) l .slot (rankOf (numbers l) (seen (numbers l) l) (seen (numbers l) l .prefix c))
+  stands-there = sym (stands .there)
+
+  pub joined-parted : {s : ℕ} → s < 2 ^ numbers l .S → Parted l (joined (numbers l .S) (seen (numbers l) l .prefix c) s) (seen (numbers l) l .prefix c) s
+  joined-parted {s} t =
+      let p : ℕ = seen (numbers l) l .prefix c in
+      record {
+        wf = wf;
+        small = subst (λ (z : ℕ). joined (numbers l .S) p s < z) (sym (pow-add 2 (numbers l .P) (numbers l .S))) (digits-lt (stands .in-range) t);
+        prefix-is = sym (prefix-joined (numbers l .S) p s t);
+        suffix-is = sym (suffix-joined (numbers l .S) p s t);
+      }
 
 module _ {l : List ℕ} {w p s : ℕ} (a : Parted l w p s) where
   abbrev g : Numbers
@@ -184,6 +209,14 @@ module _ {l : List ℕ} {w p s : ℕ} (a : Parted l w p s) where
 
     held-good : GoodSuffixes (g .S) held
     held-good = subst (λ (z : ℕ). GoodSuffixes (g .S) (suffixes g v z)) slot-is (old-good g v (a .wf .shape .placed) (seen-bits g l) read-good w model-small model-set)
+
+    -- the slot is in use
+    pub c-used : v .kind c ≢ 0
+    c-used z = a .wf .shape .placed .borne p p-small set .in-use (ap (v .kind) (sym ec) ∙ z)
+
+    -- an insert at the slot is one of the word
+    pub at-done : (o : Outcome) (l′ : List ℕ) → InsertedAs (joined (g .S) (v .prefix c) s) l o l′ → InsertedAs w l o l′
+    at-done o l′ x = subst (λ (z : ℕ). InsertedAs z l o l′) (ap (λ (z : ℕ). joined (g .S) z s) prefix-here ∙ ap (joined (g .S) (prefixOf (g .S) w)) (a .suffix-is) ∙ joined-parts (g .S) w) x
 
     -- what a search found, told by its test
     pub found-is : (found told : Bool) → found ≡ mem s held → found ≡ told → mem s held ≡ told

@@ -9,12 +9,12 @@ use borrow.Fn.PlainCycle.{Measures, is, falls, and}
 use Rattle.arena.specs.Arena.{nodesIn}
 use Rattle.bitvector.proofs.word.lowest.Reads as lowest-reads
 use Rattle.bitvector.proofs.word.without.Reads as without-reads
-use Rattle.trie_walk.specs.Pour.{state, poured}
+use Rattle.trie_walk.specs.Pour.{state, poured, notBelow}
 use Rattle.trie_walk.specs.Words.{numbersIn}
 use Rattle.trie_walk.specs.Batch.{allListed}
 use Rattle.trie_walk.proofs.Numbers.{Without, fewer}
 use Rattle.trie_walk.proofs.Levels.{all-suffixes}
-use Rattle.trie_walk.proofs.Runs.{Runs, ahead, start, waiting, load, flush, push-place, push-node, push-lead, push, done, full, anew, back}
+use Rattle.trie_walk.proofs.Runs.{Runs, ahead, start, waiting, load, flush, push-place, push-node, push-lead, place, place-few, done, full, anew, back}
 use Rattle.trie_walk.proofs.batch.below.Reads as below
 use Rattle.trie_walk.proofs.batch.below.Kinds as below-kinds
 use Rattle.trie_walk.proofs.batch.+below.Lts-below as below-lts
@@ -50,19 +50,19 @@ calls t = (
 )
 
 abbrev Inv-loop : below-lts.InvT-loop
-Inv-loop arena slots d nodes leads count skip out₀ at maps children₀ behind₀ c₀ skip₀ at₀ e₀ w₀ p₀ out children behind c skip' at' e w p =
-    (w ≡ 0) × Runs slots (d - 1) count arena nodes leads maps (allListed (nodesIn slots arena) d nodes leads count) (state skip at out₀) out children behind c skip' at' e w p
+Inv-loop arena slots d nodes leads count from skip out₀ at maps bound children₀ behind₀ c₀ skip₀ at₀ e₀ w₀ p₀ out children behind c skip' at' e w p =
+    (w ≡ 0) × Runs slots (d - 1) count from arena nodes leads maps (allListed (nodesIn slots arena) d nodes leads count) (state skip at out₀) out children behind c skip' at' e w p
 
 abbrev μ-loop : below-lts.MeasureT-loop
-μ-loop arena slots d nodes leads count skip out₀ at maps children₀ behind₀ c₀ skip₀ at₀ e₀ w₀ p₀ out children behind c skip' at' e w p = 4 * count - e
+μ-loop arena slots d nodes leads count from skip out₀ at maps bound children₀ behind₀ c₀ skip₀ at₀ e₀ w₀ p₀ out children behind c skip' at' e w p = 4 * count - e
 
 abbrev Inv-loop2 : below-lts.InvT-loop2
-Inv-loop2 arena slots d nodes leads count skip out₀ at maps children₀ behind₀ c₀ skip₀ at₀ e w₀ p out children behind c skip' at' w =
-    Runs slots (d - 1) count arena nodes leads maps (ahead slots (d - 1) count arena nodes leads maps children₀ behind₀ c₀ e w₀ p) (state skip₀ at₀ out₀) out children behind c skip' at' e w p
+Inv-loop2 arena slots d nodes leads count from skip out₀ at maps bound children₀ behind₀ c₀ skip₀ at₀ e w₀ p out children behind c skip' at' w =
+    Runs slots (d - 1) count from arena nodes leads maps (ahead slots (d - 1) count arena nodes leads maps children₀ behind₀ c₀ e w₀ p) (state skip₀ at₀ out₀) out children behind c skip' at' e w p
 
 -- a push takes a set bit and may fill the row, a flush empties the row
 abbrev μ-loop2 : below-lts.MeasureT-loop2
-μ-loop2 arena slots d nodes leads count skip out₀ at maps children₀ behind₀ c₀ skip₀ at₀ e w₀ p out children behind c skip' at' w = 2 * length (numbersIn w 0) + c / 32
+μ-loop2 arena slots d nodes leads count from skip out₀ at maps bound children₀ behind₀ c₀ skip₀ at₀ e w₀ p out children behind c skip' at' w = 2 * length (numbersIn w 0) + c / 32
 
 gather-requires : (t : ℕ) → below-lts.Need-gather-requires (calls t) (below-at t) below.Post Inv-loop2 μ-loop2 Inv-loop μ-loop
 gather-requires t c κs =
@@ -75,21 +75,30 @@ last-requires t c κs =
     (s .pre .1 .1, λ i h. subst (λ (k : ℕ). getD (s .args .leads .now) i 0 < 2 ^ (8 * (5 - k))) (c .before .before .if1 .taken) (s .pre .1 .0 .row .lead i h))
 
 same-length : (t : ℕ) → below-lts.Need-same-length (calls t) (below-at t) below.Post Inv-loop2 μ-loop2 Inv-loop μ-loop
-same-length t c = c .before .before .last .kept .1 .1 .1 .1 .0
+same-length t c = c .before .before .last .kept .1 .1 .1 .1 .1 .0
 
 returns : (t : ℕ) → below-lts.Need-returns (calls t) (below-at t) below.Post Inv-loop2 μ-loop2 Inv-loop μ-loop
 returns t c =
     let g = c .before .before .before .before .before .before in
     let a = g .before .before .before .before .args in
     c .before .before .last .ensures
-    ∙ ap (λ (xs : List ℕ). poured xs (state (a .skip) (a .at) (a .out .now)))
+    ∙ ap (λ (xs : List ℕ). poured (notBelow (a .from) xs) (state (a .skip) (a .at) (a .out .now)))
     (sym (all-suffixes (a .slots) (a .arena .now) (a .nodes .now) (a .leads .now) (g .gather .last .1 .1 .1 .1 .0) (a .count) (g .gather .ensures)) ∙ ap (λ (k : ℕ). allListed (nodesIn (a .slots) (a .arena .now)) k (a .nodes .now) (a .leads .now) (a .count)) (sym (c .before .before .before .before .before .if1 .taken)))
+
+sub-bound : (t : ℕ) → below-lts.Need-sub-bound (calls t) (below-at t) below.Post Inv-loop2 μ-loop2 Inv-loop μ-loop
+sub-bound t c = let R = c .before .before .before .before .before .pre .1 .0 .row in omega (arith, R .some, R .short, R .few)
+
+mul-bound : (t : ℕ) → below-lts.Need-mul-bound (calls t) (below-at t) below.Post Inv-loop2 μ-loop2 Inv-loop μ-loop
+mul-bound t c = let R = c .before .before .before .before .before .pre .1 .0 .row in omega (arith, R .some, R .short, R .few)
+
+shr-bound : (t : ℕ) → below-lts.Need-shr-bound (calls t) (below-at t) below.Post Inv-loop2 μ-loop2 Inv-loop μ-loop
+shr-bound t c = let R = c .before .before .before .before .before .pre .1 .0 .row in omega (arith, R .some, R .short, R .few)
 
 loop-holds : (t : ℕ) → below-lts.Need-loop-holds (calls t) (below-at t) below.Post Inv-loop2 μ-loop2 Inv-loop μ-loop
 loop-holds t c =
     let s = c .before .before .before .before .before in
     let a = s .args in
-    (refl, start (a .slots) (a .d) (a .count) (a .arena .now) (a .nodes .now) (a .leads .now) _ (state (a .skip) (a .at) (a .out .now)) _ _ (s .pre .1 .0) (c .if1 .left) (c .before .gather .ensures) refl refl)
+    (refl, start (a .slots) (a .d) (a .count) (a .from) (a .arena .now) (a .nodes .now) (a .leads .now) _ (state (a .skip) (a .at) (a .out .now)) _ _ (s .pre .1 .0) (c .if1 .left) (c .before .gather .ensures) refl refl)
 
 mul-loop : (t : ℕ) → below-lts.Need-mul-loop (calls t) (below-at t) below.Post Inv-loop2 μ-loop2 Inv-loop μ-loop
 mul-loop t c = omega (arith, c .before .before .before .before .before .before .pre .1 .1)
@@ -131,14 +140,14 @@ same-length-2 : (t : ℕ) → below-lts.Need-same-length-2 (calls t) (below-at t
 same-length-2 t c =
     let f = c .before .before .before .before in
     let n = f .before .before .before .before .before .before in
-    f .below .kept .1 .1 .1 .1 .1 .1 .1 .0 ∙ n .loop2 .inv .run .long ∙ n .before .before .loop .inv .1 .run .long
+    f .below .kept .1 .1 .1 .1 .1 .1 .1 .1 .0 ∙ n .loop2 .inv .run .long ∙ n .before .before .loop .inv .1 .run .long
 
 returns-2 : (t : ℕ) → below-lts.Need-returns-2 (calls t) (below-at t) below.Post Inv-loop2 μ-loop2 Inv-loop μ-loop
 returns-2 t c =
     let f = c .before .before .before .before in
     let n = f .before .before .before .before .before .before in
     let at = n .before .before in
-    full (flush (back (load (at .loop .inv .1) (at .loop .inv .0) (n .before .loop-test .taken)) (n .loop2 .inv)) _ _ _ (f .below .ensures) (f .below .kept .1 .1 .1 .1 .1 .1 .1 .0)) (c .before .if3 .taken) (c .if4 .taken)
+    full (flush (back (load (at .loop .inv .1) (at .loop .inv .0) (n .before .loop-test .taken)) (n .loop2 .inv)) _ _ _ (f .below .ensures) (f .below .kept .1 .1 .1 .1 .1 .1 .1 .1 .0)) (c .before .if3 .taken) (c .if4 .taken)
 
 loop2-less : (t : ℕ) → below-lts.Need-loop2-less (calls t) (below-at t) below.Post Inv-loop2 μ-loop2 Inv-loop μ-loop
 loop2-less t c = omega (arith, c .before .before .before .before .before .before .before .before .if2 .taken)
@@ -146,7 +155,7 @@ loop2-less t c = omega (arith, c .before .before .before .before .before .before
 loop2-again : (t : ℕ) → below-lts.Need-loop2-again (calls t) (below-at t) below.Post Inv-loop2 μ-loop2 Inv-loop μ-loop
 loop2-again t c =
     let f = c .before .before .before .before in
-    flush (f .before .before .before .before .before .before .loop2 .inv) _ _ _ (f .below .ensures) (f .below .kept .1 .1 .1 .1 .1 .1 .1 .0)
+    flush (f .before .before .before .before .before .before .loop2 .inv) _ _ _ (f .below .ensures) (f .below .kept .1 .1 .1 .1 .1 .1 .1 .1 .0)
 
 loop2-less-2 : (t : ℕ) → below-lts.Need-loop2-less-2 (calls t) (below-at t) below.Post Inv-loop2 μ-loop2 Inv-loop μ-loop
 loop2-less-2 t c = omega (arith, c .before .before .before .before .before .before .before .if2 .taken)
@@ -154,7 +163,7 @@ loop2-less-2 t c = omega (arith, c .before .before .before .before .before .befo
 loop2-again-2 : (t : ℕ) → below-lts.Need-loop2-again-2 (calls t) (below-at t) below.Post Inv-loop2 μ-loop2 Inv-loop μ-loop
 loop2-again-2 t c =
     let f = c .before .before .before in
-    flush (f .before .before .before .before .before .before .loop2 .inv) _ _ _ (f .below .ensures) (f .below .kept .1 .1 .1 .1 .1 .1 .1 .0)
+    flush (f .before .before .before .before .before .before .loop2 .inv) _ _ _ (f .below .ensures) (f .below .kept .1 .1 .1 .1 .1 .1 .1 .1 .0)
 
 lowest-requires : (t : ℕ) → below-lts.Need-lowest-requires (calls t) (below-at t) below.Post Inv-loop2 μ-loop2 Inv-loop μ-loop
 lowest-requires t c κs = c .before .loop2-test .taken
@@ -169,9 +178,6 @@ push-requires t c κs =
     let L = c .before .before .lowest .ensures in
     (r .whole .tries .long, (omega (arith, push-place r L, n .before .before .before .before .before .before .before .before .pre .1 .1), (push-node r L, (push-lead r L, omega (arith, r .run .few, c .before .before .before .if2 .left)))))
 
-add-c : (t : ℕ) → below-lts.Need-add-c (calls t) (below-at t) below.Post Inv-loop2 μ-loop2 Inv-loop μ-loop
-add-c t c = omega (arith, c .before .before .before .before .before .before .loop2 .inv .run .few)
-
 without-requires : (t : ℕ) → below-lts.Need-without-requires (calls t) (below-at t) below.Post Inv-loop2 μ-loop2 Inv-loop μ-loop
 without-requires t c κs = c .before .before .before .lowest .ensures .small
 
@@ -181,7 +187,7 @@ loop2-less-3 t c =
     let n = f .before .before .before .before .before .before in
     let T : Without (n .loop2 .w) (f .before .before .before .lowest .result) (c .without .result) =
     record { lowest = f .before .before .before .lowest .ensures; here = c .without .ensures .0; other = c .without .ensures .1 } in
-    omega (arith, fewer T, n .loop2 .inv .run .few, f .before .before .before .before .if2 .left)
+    omega (arith, fewer T, place-few (n .loop2 .inv) T (f .push .result) (f .push .ensures .0), n .loop2 .inv .run .few, f .before .before .before .before .if2 .left)
 
 loop2-again-3 : (t : ℕ) → below-lts.Need-loop2-again-3 (calls t) (below-at t) below.Post Inv-loop2 μ-loop2 Inv-loop μ-loop
 loop2-again-3 t c =
@@ -189,7 +195,7 @@ loop2-again-3 t c =
     let n = f .before .before .before .before .before .before in
     let T : Without (n .loop2 .w) (f .before .before .before .lowest .result) (c .without .result) =
     record { lowest = f .before .before .before .lowest .ensures; here = c .without .ensures .0; other = c .without .ensures .1 } in
-    push (n .loop2 .inv) T (omega (arith, n .loop2 .inv .run .few, f .before .before .before .before .if2 .left)) _ _ (f .push .ensures .0) (f .push .ensures .1)
+    place (n .loop2 .inv) T (omega (arith, n .loop2 .inv .run .few, f .before .before .before .before .if2 .left)) _ _ _ (f .push .ensures .0) (f .push .ensures .1 .0) (f .push .ensures .1 .1)
 
 sub-below-2 : (t : ℕ) → below-lts.Need-sub-below-2 (calls t) (below-at t) below.Post Inv-loop2 μ-loop2 Inv-loop μ-loop
 sub-below-2 t c = omega (arith, c .before .before .before .before .before .before .before .pre .1 .0 .row .some)
@@ -203,7 +209,7 @@ below-requires-2 t c κs =
 same-length-3 : (t : ℕ) → below-lts.Need-same-length-3 (calls t) (below-at t) below.Post Inv-loop2 μ-loop2 Inv-loop μ-loop
 same-length-3 t c =
     let f = c .before .before in
-    f .below2 .kept .1 .1 .1 .1 .1 .1 .1 .0 ∙ f .before .before .before .before .before .loop .inv .1 .run .long
+    f .below2 .kept .1 .1 .1 .1 .1 .1 .1 .1 .0 ∙ f .before .before .before .before .before .loop .inv .1 .run .long
 
 returns-3 : (t : ℕ) → below-lts.Need-returns-3 (calls t) (below-at t) below.Post Inv-loop2 μ-loop2 Inv-loop μ-loop
 returns-3 t c =
@@ -217,6 +223,9 @@ pub +below-spec : {M : Type 1} → statement M
     (last-requires t)
     (same-length t)
     (returns t)
+    (sub-bound t)
+    (mul-bound t)
+    (shr-bound t)
     (loop-holds t)
     (mul-loop t)
     (mul-w t)
@@ -237,7 +246,6 @@ pub +below-spec : {M : Type 1} → statement M
     (lowest-requires t)
     (add-push t)
     (push-requires t)
-    (add-c t)
     (without-requires t)
     (loop2-less-3 t)
     (loop2-again-3 t)

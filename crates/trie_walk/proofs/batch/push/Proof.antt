@@ -1,15 +1,37 @@
--- Two stores. Assumes nothing.
-use mathlib.Core.Path.{refl, ap}
-use lib.ListN.{set}
+-- Two stores, unless the leading bytes are below the bound. Assumes nothing.
+use mathlib.Core.Path.{_≡_, refl, ap}
+use mathlib.Core.Bool.{true, false}
+use Prim.Native.Nat.{_+_, _*_, _/_, _%_}
+use lib.Dec.{leb}
+use lib.ListN.{getD, set}
 use borrow.Author.Needs.{needs}
+use borrow.Author.Tests.{le-leb, lt-leb}
 use Rattle.trie_walk.proofs.batch.push.Statement.{statement}
 use Rattle.trie_walk.proofs.batch.push.Tie as tie
 
-mul-n : tie.Need-mul-n
-mul-n c = search needs
+mul-lead : tie.Need-mul-lead
+mul-lead c = search needs
 
-element-copy-out-n : tie.Need-element-copy-out-n
-element-copy-out-n c = search needs
+element-copy-out-lead : tie.Need-element-copy-out-lead
+element-copy-out-lead c = search needs
+
+mul-lead-2 : tie.Need-mul-lead-2
+mul-lead-2 c = search needs
+
+add-lead : tie.Need-add-lead
+add-lead c = search needs
+
+returns : tie.Need-returns
+returns c =
+    let a = c .before .before .before .args in
+    let e : leb (a .bound) (getD (a .leads .now) (a .x / 256) 0 * 256 + a .x % 256) ≡ false = lt-leb _ _ (c .if1 .taken) in
+    rw e (refl, (refl, refl))
+
+mul-child : tie.Need-mul-child
+mul-child c = search needs
+
+element-copy-out-child : tie.Need-element-copy-out-child
+element-copy-out-child c = search needs
 
 child-requires : tie.Need-child-requires
 child-requires c κs = search needs
@@ -23,37 +45,33 @@ element-write-children c = search needs
 mul-behind : tie.Need-mul-behind
 mul-behind c = search needs
 
-element-copy-out-behind : tie.Need-element-copy-out-behind
-element-copy-out-behind c = search needs
-
-mul-behind-2 : tie.Need-mul-behind-2
-mul-behind-2 c = search needs
-
-add-behind : tie.Need-add-behind
-add-behind c = search needs
-
-mul-behind-3 : tie.Need-mul-behind-3
-mul-behind-3 c = search needs
-
 element-write-behind : tie.Need-element-write-behind
 element-write-behind c = search needs
 
-returns : tie.Need-returns
-returns c = (ap (set (c .before .before .before .before .args .children .now) (c .before .before .before .before .args .c)) (c .before .child .ensures), refl)
+add-result : tie.Need-add-result
+add-result c = search needs
+
+returns-2 : tie.Need-returns-2
+returns-2 c =
+    let a = c .before .before .before .before .before .args in
+    let e : leb (a .bound) (getD (a .leads .now) (a .x / 256) 0 * 256 + a .x % 256) ≡ true = le-leb _ _ (c .before .before .if1 .left) in
+    rw e (refl, (ap (set (a .children .now) (a .c)) (c .child .ensures), refl))
 
 pub push-spec : {M : Type 1} → statement M
 push-spec =
     tie.close
     (tie.spec
-    mul-n
-    element-copy-out-n
+    mul-lead
+    element-copy-out-lead
+    mul-lead-2
+    add-lead
+    returns
+    mul-child
+    element-copy-out-child
     child-requires
     mul-children
     element-write-children
     mul-behind
-    element-copy-out-behind
-    mul-behind-2
-    add-behind
-    mul-behind-3
     element-write-behind
-    returns)
+    add-result
+    returns-2)
