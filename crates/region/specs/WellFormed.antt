@@ -1,5 +1,5 @@
 -- Document 01, "The region": when a slice of words is a well-formed region. Every line stands under the document's words, in its order.
--- What is not named for a kind is not looked at: specs/SameLookedAt says what is, and proofs/Looked that nothing else matters. Assumes nothing.
+-- What is not named for a kind is not looked at: specs/LookedAt says what is, and proofs/Looked that nothing else matters. Assumes nothing.
 use Prim.Native.Nat.{ℕ, suc, _-_, _*_, _^_, _<_, _≤_, min}
 use mathlib.Core.Path.{_≡_}
 use mathlib.Core.Logic.{_≢_}
