@@ -12,10 +12,6 @@ pub rebuilt : (l : List ℕ) → Ready l → Shape (numbers l) (seenIn (partsOf 
 unfolding seen
 rebuilt l r s = record { ready = r; shape = s }
 
-pub seen-parts : (l : List ℕ) → seen (numbers l) l ≡ seenIn (partsOf (numbers l) l)
-unfolding seen
-seen-parts l = refl
-
 pub reading-parts : (l : List ℕ) → reading l ≡ read (numbers l) (seenIn (partsOf (numbers l) l))
 unfolding seen reading
 reading-parts l = refl

@@ -44,14 +44,6 @@ module _ (g : Numbers) {o k : ℕ} {l m : List ℕ} (c : Only o k l m) where
 -- Stores
 
 module _ (g : Numbers) (l : List ℕ) (i x : ℕ) where
-  pub store-header : i < headerWords → partsOf g (set l i x) ≡ partsOf g l
-  store-header h = in-header g (store-only l i x) (omega arith)
-
-  pub store-bitmap : i < bitmapWords (g .P) → partsOf g (set l (offBitmap + i) x) ≡ withBitmap (set (bitmap g l) i x) (partsOf g l)
-  store-bitmap h =
-      in-bitmap g (store-only l (offBitmap + i) x) (omega arith) (omega arith)
-      ∙ ap (λ (new : List ℕ). withBitmap new (partsOf g l)) (area-set-in offBitmap (bitmapWords (g .P)) l i x h)
-
   pub store-ranks : i < g .C → partsOf g (set l (offRanks (g .P) + i) x) ≡ withRanks (set (ranks g l) i x) (partsOf g l)
   store-ranks h =
       in-ranks g (store-only l (offRanks (g .P) + i) x) (omega arith) (omega arith)
