@@ -1,5 +1,5 @@
 // The rank of a prefix: prefixes ascend with the rank, so the prefix at a rank says on which side to look on. First where it would stand if prefixes
-// were spread evenly, then by halving: among 60,000 that are, 2.5 times as fast as by halving alone; a few looks more among others.
+// were spread evenly, then by halving: prefixes that are so spread are met in a few looks, and others cost these looks more.
 ghost use mathlib.Core.Path.{_≡_};
 ghost use Prim.Native.Nat.{_^_, _<_};
 ghost use Rattle.region.specs.Areas.{numbers};
