@@ -170,6 +170,64 @@ fn many_tries_share_the_nodes() {
     ask(&l, &model, &mut random);
 }
 
+/// Blocks of lookups are answered side by side, and slots are guessed: prefixes spread evenly, crowded, or far apart, vectors and
+/// tries in one block, absent prefixes and absent suffixes, every length about a block's, and commands that change slots between.
+#[test]
+fn lookups_side_by_side() {
+    let mut random = Numbers64(5);
+    for (p, s, crowd) in [(10, 11, 1), (16, 20, 1), (16, 28, 200), (24, 40, 9000), (8, 40, 1)] {
+        let numbers = Numbers { p, s, containers: 300, nodes: 6000 };
+        let (mut l, mut model) = (region(numbers), Model::new(numbers));
+        // crowd 1: prefixes anywhere; else most of them near one place
+        let prefix = |random: &mut Numbers64| match random.below(crowd) {
+            0 => random.below(1 << p),
+            _ => (1 << (p - 1)) + random.below(1 << (p / 2)),
+        };
+        let held: Vec<u64> = (0..200).map(|_| prefix(&mut random) << s).collect();
+        let mut known: Vec<u64> = held.iter().flat_map(|&at| [at, at + 1, at + random.below(1 << s)]).collect();
+        // three tries among the vectors
+        for &at in &held[..3] {
+            known.extend((0..1100).map(|i| at + (i * 7) % (1 << s)));
+        }
+        for words in known.chunks(4096) {
+            both(&mut l, &mut model, &vec![1; words.len()], words, words.len()).unwrap();
+        }
+        assert!(model.nodes() > 0, "no trie was made");
+        for length in (0..40).chain([255, 256, 257, 4096]) {
+            let words: Vec<u64> = (0..length)
+                .map(|_| match random.below(4) {
+                    0 => random.next() >> (64 - p - s),
+                    1 => known[random.below(known.len() as u64) as usize] ^ random.below(2),
+                    _ => known[random.below(known.len() as u64) as usize],
+                })
+                .collect();
+            let before = l.clone();
+            both(&mut l, &mut model, &vec![0; length], &words, length + 1).unwrap();
+            assert!(l == before, "a lookup changed a word");
+            // one command that is no lookup, anywhere
+            if length > 0 {
+                let mut codes = vec![0; length];
+                codes[random.below(length as u64) as usize] = 1 + random.below(2) as u8;
+                let _ = both(&mut l, &mut model, &codes, &words, length);
+            }
+            // inserts and removes of one container between lookups: its slot goes and comes back
+            let at = prefix(&mut random) << s;
+            let mixed: Vec<u64> = words.iter().map(|&w| if w % 3 == 0 { at } else { w }).collect();
+            let codes: Vec<u8> = (0..length).map(|_| random.below(3) as u8).collect();
+            let _ = both(&mut l, &mut model, &codes, &mixed, length);
+            // all members, but for one at any place
+            let members: Vec<u64> = model.walk().into_iter().take(length).collect();
+            assert_eq!(all_members(&l, &members), Ok(true));
+            if let Some(place) = members.len().checked_sub(1).map(|last| random.below(last as u64 + 1) as usize) {
+                let mut one_off = members.clone();
+                one_off[place] = (held[3]..).find(|w| !model.contains(*w)).unwrap();
+                assert_eq!(all_members(&l, &one_off), Ok(false), "absent at place {place}");
+            }
+        }
+        hold(&l, &model, MARK);
+    }
+}
+
 #[test]
 fn the_longest_list_and_one_more() {
     let numbers = Numbers { p: 1, s: 40, containers: 2, nodes: 0 };

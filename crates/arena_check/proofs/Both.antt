@@ -10,8 +10,9 @@ use Rattle.lists.proofs.Counts.{sum-few}
 use Rattle.region.specs.Geometry.{nodeWords}
 use Rattle.region.specs.Nodes.{Nodes}
 use Rattle.region.specs.WellFormed.{StackedNode, SpareNode, nodesUsed}
+use Rattle.region.specs.Linked.{Above}
 use Rattle.arena.specs.Arena.{Arena, nodesIn, spareIn}
-use Rattle.arena_check.specs.Checks.{NodeOk, belowRoot, branches}
+use Rattle.arena_check.specs.Checks.{OwnOk, Hangs, belowRoot, branches}
 use Rattle.arena_check.proofs.Maps.{bits-of}
 use Rattle.lists.proofs.Matching.{Lands, Met, all-met, sum-ones}
 use Rattle.arena_check.proofs.Down.{children, balanced}
@@ -39,21 +40,21 @@ module _ (N b used : ℕ) (l : List ℕ) where
   abbrev v : Nodes
   v = nodesIn N l
 
-  pub arena-of : length l ≡ N + nodeWords * N → used ≤ N → ((n : ℕ) → n < N → NodeOk N b (N - used) (spareIn l) v n)
+  pub arena-of : length l ≡ N + nodeWords * N → used ≤ N → ((n : ℕ) → n < N → OwnOk N b (N - used) (spareIn l) v n) → ((n : ℕ) → n < N → Hangs N v n)
       → nodesUsed v N ≡ used → sum (belowRoot v) N ≡ sum (branches v b) N → Arena N b used l
-  arena-of long small ok count even =
+  arena-of long small own hung count even =
       record {
         tries = record {
           long = long;
           wf = record {
-            levels = λ n h. ok n h .level;
-            down = children v N b (bits-of N l) (λ n h. ok n h .level) (λ k n h. ok n h .up k) even;
-            up = λ k n h. ok n h .up k;
+            levels = λ n h. own n h .level;
+            down = children v N b (bits-of N l) (λ n h. own n h .level) (λ k n h. hung n h k) even;
+            up = λ k n h. hung n h k;
           };
-          non-empty = λ n h. ok n h .non-empty;
+          non-empty = λ n h. own n h .non-empty;
         };
-        spare-nodes = spare-nodes v (spareIn l) N used small count (λ n h. ok n h .stacked);
-        stacked-nodes = λ n h. ok n h .stacked;
+        spare-nodes = spare-nodes v (spareIn l) N used small count (λ n h. own n h .stacked);
+        stacked-nodes = λ n h. own n h .stacked;
         used-true = count;
       }
 
@@ -61,13 +62,16 @@ module _ (N b used : ℕ) (l : List ℕ) where
     pub few : used ≤ N
     few = omega (arith, A .used-true, sum-few (λ n. min 1 (v .level1 n)) N (λ n. omega arith))
 
-    pub node-of : (n : ℕ) → n < N → NodeOk N b (N - used) (spareIn l) v n
-    node-of n h = record {
+    pub own-of : (n : ℕ) → n < N → OwnOk N b (N - used) (spareIn l) v n
+    own-of n h = record {
       level = A .tries .wf .levels n h;
       stacked = A .stacked-nodes n h;
       non-empty = A .tries .non-empty n h;
-      up = λ k. A .tries .wf .up k n h;
+      back = λ e. let a : Above v N (v .level1 n - 2) n = A .tries .wf .up (v .level1 n - 2) n h (omega arith) in (a .in-range, a .byte);
     }
+
+    pub hangs-of : (n : ℕ) → n < N → Hangs N v n
+    hangs-of n h k = A .tries .wf .up k n h
 
     pub even-of : sum (belowRoot v) N ≡ sum (branches v b) N
     even-of = balanced v N b (bits-of N l) (A .tries .wf .levels) (A .tries .wf .up) (A .tries .wf .down)

@@ -21,7 +21,8 @@ use Rattle.region.specs.Seen.{Seen, seen}
 use Rattle.region.specs.Read.{read}
 use Rattle.region.specs.WellFormed.{Placed, Trie, Held, Ready}
 use Rattle.region.proofs.Listing.{members-ascend}
-use Rattle.arena.specs.Arena.{Arena}
+use Rattle.arena_check.specs.Answers.{CheckedAs}
+use Rattle.arena_check.specs.declared.Verdict.{Verdict}
 use Rattle.lens.specs.Parts.{partsOf, arenaOf}
 use Rattle.lens.proofs.Holding.{Sized, begin, sized}
 use Rattle.make.proofs.Ranges.{Ranges, ranges}
@@ -107,14 +108,8 @@ module _ (l : List ℕ) (r : Ready l) where
     pub hanging-asks : (length (partOf (getD l 13 0) (getD l 15 0) l) ≡ n + nodeWords * n) × (b ≤ 5)
     hanging-asks = (ap length (lent-is l r) ∙ omega (arith, arena-long l r), omega (arith, suffix-bits l r .1))
 
-    hanging-part : Arena n b u (partOf (getD l 13 0) (getD l 15 0) l) ≡ Arena (g .N) (bytesOf (g .S)) (g .used) (arenaOf g l)
-    hanging-part = λ i. Arena (en i) (eb i) (eu i) (lent-is l r i)
-
-    pub hanging-told : Arena n b u (partOf (getD l 13 0) (getD l 15 0) l) → Arena (g .N) (bytesOf (g .S)) (g .used) (arenaOf g l)
-    hanging-told = subst (λ (A : Type 0). A) hanging-part
-
-    pub told-hanging : Arena (g .N) (bytesOf (g .S)) (g .used) (arenaOf g l) → Arena n b u (partOf (getD l 13 0) (getD l 15 0) l)
-    told-hanging = subst (λ (A : Type 0). A) (sym hanging-part)
+    pub hanging-told : (a : Verdict) → CheckedAs n b u (partOf (getD l 13 0) (getD l 15 0) l) a → CheckedAs (g .N) (bytesOf (g .S)) (g .used) (arenaOf g l) a
+    hanging-told a = subst (λ (A : Type 0). A) (λ i. CheckedAs (en i) (eb i) (eu i) (lent-is l r i) a)
 
   -- The member count
 

@@ -10,16 +10,16 @@ ghost use Rattle.region.specs.Areas.{numbers};
 ghost use Rattle.region.specs.Seen.{seen};
 ghost use Rattle.region.specs.Read.{read};
 ghost use Rattle.region.specs.WellFormed.{Placed, Held, Ready, WellFormed};
-ghost use Rattle.arena.specs.Arena.{Arena};
+ghost use Rattle.arena_check.specs.Answers.{CheckedAs};
 ghost use Rattle.lens.specs.Parts.{arenaOf};
 ghost use Rattle.inspect_slots.specs.Slots.{FreeStack};
 ghost use Rattle.promises.specs.Answers.{checked};
 ghost use Rattle.promises.specs.Check.{CheckPromise};
+use arena_check::Verdict;
 use inspect_slots::header::header_ok;
 use inspect_slots::ranks::ranks_ok;
 use inspect_slots::sizes::sizes;
 use inspect_slots::stack::stack_ok;
-use inspect_tries::roots_ok;
 use inspect_tries::tries_ok;
 use inspect_vectors::vectors_ok;
 use promises::Checked;
@@ -62,10 +62,9 @@ fn slots_stacked(region: &[u64]) -> bool
 }
 
 // Whether the nodes hang together and the free ones are stacked.
-fn nodes_hung(region: &[u64]) -> bool
+fn nodes_hung(region: &[u64]) -> Verdict
     requires { ⌜ Ready (now region) ⌝ }
-    ensures yes { λ r. ⌜ (r ≡ true → Arena (numbers (now (region .entry)) .N) (bytesOf (numbers (now (region .entry)) .S)) (numbers (now (region .entry)) .used) (arenaOf (numbers (now (region .entry))) (now (region .entry)))) ⌝ }
-    ensures no { λ r. ⌜ (r ≡ false → Arena (numbers (now (region .entry)) .N) (bytesOf (numbers (now (region .entry)) .S)) (numbers (now (region .entry)) .used) (arenaOf (numbers (now (region .entry))) (now (region .entry))) → ⊥) ⌝ }
+    ensures { λ r. ⌜ CheckedAs (numbers (now (region .entry)) .N) (bytesOf (numbers (now (region .entry)) .S)) (numbers (now (region .entry)) .used) (arenaOf (numbers (now (region .entry))) (now (region .entry))) r ⌝ }
 {
     let start = region[13] as usize;
     let end = region[15] as usize;
@@ -107,19 +106,18 @@ pub fn well_formed(region: &[u64]) -> bool
     if !slots_stacked(region) {
         return false;
     }
-    if !nodes_hung(region) {
-        return false;
+    match nodes_hung(region) {
+        Verdict::Malformed => false,
+        Verdict::Sound(roots, last) => {
+            if !vectors_ok(region) {
+                return false;
+            }
+            if !tries_ok(region, roots, last) {
+                return false;
+            }
+            count_true(region)
+        }
     }
-    if !vectors_ok(region) {
-        return false;
-    }
-    if !tries_ok(region) {
-        return false;
-    }
-    if !roots_ok(region) {
-        return false;
-    }
-    count_true(region)
 }
 
 // Check a region.

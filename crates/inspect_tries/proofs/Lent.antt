@@ -46,11 +46,3 @@ module _ (l : List ℕ) (r : Ready l) where
   pub nodes-are : nodesIn (g .N) (arenaOf g l) ≡ v .node
   unfolding seen
   nodes-are = ap nodesOf (arena-nodes g l (r .long))
-
-  -- an arena of N slots that is the region's
-  module _ (arena : List ℕ) (is : arena ≡ arenaOf g l) (N : ℕ) (en : N ≡ g .N) where
-    pub lent-long : length arena ≡ N + nodeWords * N
-    lent-long = ap length is ∙ omega (arith, arena-long)
-
-    pub lent-nodes : nodesIn N arena ≡ v .node
-    lent-nodes = ap (nodesIn N) is ∙ ap (λ (z : ℕ). nodesIn z (arenaOf g l)) en ∙ nodes-are

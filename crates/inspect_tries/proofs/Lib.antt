@@ -1,4 +1,5 @@
 pub mod RootBytes
+pub mod OneRoot
 pub mod Lent
 pub mod Holds
 pub mod Roots

@@ -1,1 +1,2 @@
 pub mod TrieAt
+pub mod AllTries

@@ -8,10 +8,11 @@ ghost use Rattle.region.specs.Geometry.{nodeWords};
 ghost use Rattle.region.specs.Areas.{numbers};
 ghost use Rattle.region.specs.Seen.{seen};
 ghost use Rattle.region.specs.WellFormed.{Ready, Trie};
-ghost use Rattle.region.specs.Linked.{Rooted};
 ghost use Rattle.arena.specs.Arena.{Arena, Tries, nodesIn};
+ghost use Rattle.arena_check.specs.Checks.{rootsIn, lastBits};
 ghost use Rattle.lens.specs.Parts.{arenaOf};
 ghost use Rattle.inspect_tries.specs.TrieAt.{TrieAt};
+ghost use Rattle.inspect_tries.specs.AllTries.{AllTries};
 use arena::read as node;
 use lens::read;
 use strip::trievec::TrieVec;
@@ -44,10 +45,22 @@ fn bytes_below(arena: &[u64], slots: usize, n: usize, end: usize) -> bool
 }
 
 // Whether node n is the root of what the trie in slot c may hold. Suffixes are below 2^S if the bytes of the root are low enough: each has suffixes behind it.
-fn root_ok(arena: &[u64], slots: usize, bits: usize, n: usize, c: usize, len: usize) -> bool
+// Under an only root hang all nodes: then the bits of the last level are its suffixes, and the trie is not walked.
+fn root_ok(
+    arena: &[u64],
+    slots: usize,
+    bits: usize,
+    n: usize,
+    c: usize,
+    len: usize,
+    roots: usize,
+    last: usize,
+) -> bool
     requires { ⌜ Tries slots (bytesOf bits) (now arena) ⌝ }
     requires { ⌜ n < slots ⌝ }
     requires { ⌜ (1 ≤ bits) × (bits ≤ 40) ⌝ }
+    requires { ⌜ roots ≡ rootsIn (nodesIn slots (now arena)) slots ⌝ }
+    requires { ⌜ last ≡ lastBits (nodesIn slots (now arena)) (bytesOf bits) slots ⌝ }
     ensures yes { λ r. ⌜ (r ≡ true → TrieAt (nodesIn slots (now (arena .entry))) bits n c len) ⌝ }
     ensures no { λ r. ⌜ (r ≡ false → TrieAt (nodesIn slots (now (arena .entry))) bits n c len → ⊥) ⌝ }
 {
@@ -60,14 +73,19 @@ fn root_ok(arena: &[u64], slots: usize, bits: usize, n: usize, c: usize, len: us
     if !bytes_below(arena, slots, n, first_end(bits)) {
         return false;
     }
+    if roots == 1 {
+        return last == len;
+    }
     count(arena, slots, (bits + 7) / 8, n) == len
 }
 
 // Whether slot c holds what a trie may hold.
-fn trie_ok(region: &[u64], c: usize) -> bool
+fn trie_ok(region: &[u64], c: usize, roots: usize, last: usize) -> bool
     requires { ⌜ Ready (now region) ⌝ }
     requires { ⌜ Arena (numbers (now region) .N) (bytesOf (numbers (now region) .S)) (numbers (now region) .used) (arenaOf (numbers (now region)) (now region)) ⌝ }
     requires { ⌜ c < numbers (now region) .C ⌝ }
+    requires { ⌜ roots ≡ rootsIn (nodesIn (numbers (now region) .N) (arenaOf (numbers (now region)) (now region))) (numbers (now region) .N) ⌝ }
+    requires { ⌜ last ≡ lastBits (nodesIn (numbers (now region) .N) (arenaOf (numbers (now region)) (now region))) (bytesOf (numbers (now region) .S)) (numbers (now region) .N) ⌝ }
     ensures yes { λ r. ⌜ (r ≡ true → Trie (numbers (now (region .entry))) (seen (numbers (now (region .entry))) (now (region .entry))) c) ⌝ }
     ensures no { λ r. ⌜ (r ≡ false → Trie (numbers (now (region .entry))) (seen (numbers (now (region .entry))) (now (region .entry))) c → ⊥) ⌝ }
 {
@@ -83,74 +101,33 @@ fn trie_ok(region: &[u64], c: usize) -> bool
     let bits = read::s(region);
     let start = region[13] as usize;
     let end = region[15] as usize;
-    root_ok(&region[start..end], slots, bits, root, c, len)
+    root_ok(&region[start..end], slots, bits, root, c, len, roots, last)
 }
 
-// Whether every trie holds what a trie may hold.
-pub fn tries_ok(region: &[u64]) -> bool
+// Whether every trie holds what a trie may hold, and every root is that of the trie in the slot that its word 5 names.
+// Each trie has a root of its own: so if there are as many roots as tries, each root has its trie, and the roots are not walked.
+pub fn tries_ok(region: &[u64], roots: usize, last: usize) -> bool
     requires { ⌜ Ready (now region) ⌝ }
     requires { ⌜ Arena (numbers (now region) .N) (bytesOf (numbers (now region) .S)) (numbers (now region) .used) (arenaOf (numbers (now region)) (now region)) ⌝ }
-    ensures yes { λ r. ⌜ (r ≡ true → (c : ℕ) → c < numbers (now (region .entry)) .C → seen (numbers (now (region .entry))) (now (region .entry)) .kind c ≡ 2 → Trie (numbers (now (region .entry))) (seen (numbers (now (region .entry))) (now (region .entry))) c) ⌝ }
-    ensures no { λ r. ⌜ (r ≡ false → ((c : ℕ) → c < numbers (now (region .entry)) .C → seen (numbers (now (region .entry))) (now (region .entry)) .kind c ≡ 2 → Trie (numbers (now (region .entry))) (seen (numbers (now (region .entry))) (now (region .entry))) c) → ⊥) ⌝ }
+    requires { ⌜ roots ≡ rootsIn (nodesIn (numbers (now region) .N) (arenaOf (numbers (now region)) (now region))) (numbers (now region) .N) ⌝ }
+    requires { ⌜ last ≡ lastBits (nodesIn (numbers (now region) .N) (arenaOf (numbers (now region)) (now region))) (bytesOf (numbers (now region) .S)) (numbers (now region) .N) ⌝ }
+    ensures yes { λ r. ⌜ (r ≡ true → AllTries (numbers (now (region .entry))) (seen (numbers (now (region .entry))) (now (region .entry)))) ⌝ }
+    ensures no { λ r. ⌜ (r ≡ false → AllTries (numbers (now (region .entry))) (seen (numbers (now (region .entry))) (now (region .entry))) → ⊥) ⌝ }
 {
     let slots = read::c(region);
+    let mut tries: usize = 0;
     let mut c: usize = 0;
     while c < slots {
         if read::kind(region, c) == 2 {
-            if !trie_ok(region, c) {
+            if !trie_ok(region, c, roots, last) {
                 return false;
             }
+            tries += 1;
         }
         c += 1;
     }
-    true
-}
-
-// Whether node n is the root of the trie in the slot that its word 5 names.
-fn rooted(region: &[u64], arena: &[u64], n: usize) -> bool
-    requires { ⌜ Ready (now region) ⌝ }
-    requires { ⌜ now arena ≡ arenaOf (numbers (now region)) (now region) ⌝ }
-    requires { ⌜ n < numbers (now region) .N ⌝ }
-    ensures yes { λ r. ⌜ (r ≡ true → Rooted (numbers (now (region .entry))) (seen (numbers (now (region .entry))) (now (region .entry))) n) ⌝ }
-    ensures no { λ r. ⌜ (r ≡ false → Rooted (numbers (now (region .entry))) (seen (numbers (now (region .entry))) (now (region .entry))) n → ⊥) ⌝ }
-{
-    let c = node::parent(arena, read::n(region), n) as usize;
-    if c >= read::c(region) {
+    if tries != roots {
         return false;
     }
-    if read::kind(region, c) != 2 {
-        return false;
-    }
-    read::link(region, c) == n
-}
-
-// Whether every root in the arena of the region is that of the trie in the slot that its word 5 names.
-fn all_rooted(region: &[u64], arena: &[u64]) -> bool
-    requires { ⌜ Ready (now region) ⌝ }
-    requires { ⌜ now arena ≡ arenaOf (numbers (now region)) (now region) ⌝ }
-    ensures yes { λ r. ⌜ (r ≡ true → (n : ℕ) → n < numbers (now (region .entry)) .N → seen (numbers (now (region .entry))) (now (region .entry)) .node .level1 n ≡ 1 → Rooted (numbers (now (region .entry))) (seen (numbers (now (region .entry))) (now (region .entry))) n) ⌝ }
-    ensures no { λ r. ⌜ (r ≡ false → ((n : ℕ) → n < numbers (now (region .entry)) .N → seen (numbers (now (region .entry))) (now (region .entry)) .node .level1 n ≡ 1 → Rooted (numbers (now (region .entry))) (seen (numbers (now (region .entry))) (now (region .entry))) n) → ⊥) ⌝ }
-{
-    let slots = read::n(region);
-    let mut n: usize = 0;
-    while n < slots {
-        if node::level1(arena, slots, n) == 1 {
-            if !rooted(region, arena, n) {
-                return false;
-            }
-        }
-        n += 1;
-    }
     true
-}
-
-// Whether every root is that of the trie in the slot that its word 5 names.
-pub fn roots_ok(region: &[u64]) -> bool
-    requires { ⌜ Ready (now region) ⌝ }
-    ensures yes { λ r. ⌜ (r ≡ true → (n : ℕ) → n < numbers (now (region .entry)) .N → seen (numbers (now (region .entry))) (now (region .entry)) .node .level1 n ≡ 1 → Rooted (numbers (now (region .entry))) (seen (numbers (now (region .entry))) (now (region .entry))) n) ⌝ }
-    ensures no { λ r. ⌜ (r ≡ false → ((n : ℕ) → n < numbers (now (region .entry)) .N → seen (numbers (now (region .entry))) (now (region .entry)) .node .level1 n ≡ 1 → Rooted (numbers (now (region .entry))) (seen (numbers (now (region .entry))) (now (region .entry))) n) → ⊥) ⌝ }
-{
-    let start = region[13] as usize;
-    let end = region[15] as usize;
-    all_rooted(region, &region[start..end])
 }

@@ -1,10 +1,12 @@
 -- A slot's first entries, as many as its length says, are a part of the region: what holds of its words is what a vector must keep. Assumes nothing.
-use Prim.Native.Nat.{ℕ, _+_, _-_, _*_, _^_, _<_, _≤_}
+use Prim.Native.Nat.{ℕ, _+_, _-_, _*_, _%_, _^_, _<_, _≤_}
 use mathlib.Core.Path.{_≡_, sym, ap, _∙_, subst}
 use mathlib.Core.Bool.{true, _&&_}
 use mathlib.Core.List.{List}
+use native.Mathlib.Nat.{one-mul}
 use native.Mathlib.Omega.{arith}
-use lib.Dec.{ltb, leb}
+use lib.Pow.{shl-exact}
+use lib.Dec.{lit<, ltb, leb}
 use lib.ListN.{length, take, drop, getD, length-drop}
 use lib.Seq.{getD-take, getD-drop, length-take-le}
 use borrow.Author.Tests.{leb-true, ltb-true, lt-ltb}
@@ -19,6 +21,10 @@ use Rattle.strip.proofs.BoundLaws.{places-all, all-places}
 use Rattle.strip.proofs.PlaceLaws.{places-distinct, distinct-places}
 use Rattle.lens.proofs.Words.{entry-is}
 
+-- a power of two is made by a shift without loss
+pub one-up : (k : ℕ) → k < 64 → (1 * 2 ^ k) % 2 ^ 64 ≡ 2 ^ k
+one-up k h = shl-exact {a = 1} 1 k 64 (lit< tt) (omega arith) ∙ one-mul _
+
 module _ (l : List ℕ) (r : Ready l) where
   abbrev g : Numbers
   g = numbers l
@@ -26,12 +32,19 @@ module _ (l : List ℕ) (r : Ready l) where
   abbrev v : Seen
   v = seen g l
 
-  -- a power of two is made of S without loss
+  -- so it is of S
   pub S-high : g .S ≤ 40
   S-high =
       let psc = and-both (goodP (g .P) && goodS (g .S) && goodC (g .C)) (goodN (g .N)) (r .header .ranges) .0 in
       let ps = and-both (goodP (g .P) && goodS (g .S)) (goodC (g .C)) psc .0 in
       leb-true (g .S) 40 (and-both (leb 1 (g .S)) (leb (g .S) 40) (and-both (goodP (g .P)) (goodS (g .S)) ps .1) .1)
+
+  -- a first entry of 2^S or more is no vector's
+  pub first-high : (b c e : ℕ) → b ≡ g .S → e ≡ v .entry c 0 → (1 * 2 ^ b) % 2 ^ 64 ≤ e → Vector g v c → ⊥
+  first-high b c e eb ee h w =
+      let q : (1 * 2 ^ b) % 2 ^ 64 ≡ 2 ^ g .S = one-up b (omega (arith, S-high)) ∙ ap (λ (k : ℕ). 2 ^ k) eb in
+      let s : v .entry c 0 < 2 ^ g .S = w .small 0 (w .some) in
+      omega arith
 
   module _ (c : ℕ) (h : c < g .C) (n : ℕ) (en : n ≡ v .size c) (few : n ≤ stripWords) where
     -- the entries lie within the region

@@ -12,6 +12,9 @@ use strip::bounds::below;
 use strip::differ::distinct;
 use strip::trievec::TrieVec;
 
+// So many strips are fetched together.
+const AHEAD: usize = 16;
+
 // Whether suffixes are distinct and below 2^bits.
 fn suffixes_ok(suffixes: &[u64], bits: usize) -> bool
     requires { ⌜ bits ≤ 40 ⌝ }
@@ -43,6 +46,28 @@ fn vector_ok(region: &[u64], c: usize) -> bool
     suffixes_ok(&region[start..end], read::s(region))
 }
 
+// Whether the first entry of each vector from slot c on, up to 16 of them, is below 2^S: strips lie far apart, and so the waits for memory overlap.
+fn firsts_ok(region: &[u64], c: usize) -> bool
+    requires { ⌜ Ready (now region) ⌝ }
+    ensures no { λ r. ⌜ (r ≡ false → ((c : ℕ) → c < numbers (now (region .entry)) .C → seen (numbers (now (region .entry))) (now (region .entry)) .kind c ≡ 1 → Vector (numbers (now (region .entry))) (seen (numbers (now (region .entry))) (now (region .entry))) c) → ⊥) ⌝ }
+{
+    let slots = read::c(region);
+    let bound = 1u64 << read::s(region);
+    let mut d = c;
+    while d < slots {
+        if d - c >= AHEAD {
+            return true;
+        }
+        if read::kind(region, d) == 1 {
+            if read::entry(region, d, 0) >= bound {
+                return false;
+            }
+        }
+        d += 1;
+    }
+    true
+}
+
 // Whether every vector holds what a vector may hold.
 pub fn vectors_ok(region: &[u64]) -> bool
     requires { ⌜ Ready (now region) ⌝ }
@@ -52,6 +77,11 @@ pub fn vectors_ok(region: &[u64]) -> bool
     let slots = read::c(region);
     let mut c: usize = 0;
     while c < slots {
+        if c % AHEAD == 0 {
+            if !firsts_ok(region, c) {
+                return false;
+            }
+        }
         if read::kind(region, c) == 1 {
             if !vector_ok(region, c) {
                 return false;

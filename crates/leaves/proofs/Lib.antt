@@ -1,1 +1,2 @@
 pub mod Keeping
+pub mod Checking

@@ -3,10 +3,12 @@ ghost use mathlib.Core.Path.{_≡_};
 ghost use mathlib.Core.Bool.{true};
 ghost use Prim.Native.Nat.{_+_, _*_, _^_, _<_, _≤_};
 ghost use lib.ListN.{length};
+ghost use Rattle.arena.specs.Arena.{Arena};
 ghost use Rattle.leaves.specs.Kept.{Kept};
 use super::REFUSED;
 use super::number;
 use arena::read;
+use arena_check::Verdict;
 use arena_check::well_formed;
 use trie::Inserted;
 use trie::Removed;
@@ -26,7 +28,7 @@ struct Step {
 }
 
 // The first number that no suffix of b bytes is.
-fn limit(b: usize) -> u64
+pub(crate) fn limit(b: usize) -> u64
     requires { ⌜ b ≤ 5 ⌝ }
     ensures { λ r. ⌜ r ≡ 2 ^ (8 * b) ⌝ }
 {
@@ -160,6 +162,18 @@ fn run(
     }
 }
 
+// Whether the arena is well formed.
+pub(crate) fn is_arena(arena: &[u64], slots: usize, used: usize, b: usize) -> bool
+    requires { ⌜ length (now arena) ≡ slots + 264 * slots ⌝ }
+    requires { ⌜ b ≤ 5 ⌝ }
+    ensures { λ r. ⌜ (r ≡ true → Arena slots b used (now (arena .entry))) ⌝ }
+{
+    match well_formed(arena, slots, used, b) {
+        Verdict::Malformed => false,
+        Verdict::Sound(_, _) => true,
+    }
+}
+
 // Commands on the trie with the root, each with its answer: 2 is no room, or the last suffix gone, and ends the row.
 // So does a suffix that has more than b bytes, which is not done.
 #[no_mangle]
@@ -216,7 +230,7 @@ pub extern "C" fn leaf_trie_run(
             used,
         };
     }
-    if !well_formed(arena, n, used as usize, b as usize) {
+    if !is_arena(arena, n, used as usize, b as usize) {
         return Ran {
             done: REFUSED,
             used,

@@ -4,4 +4,5 @@ pub mod Header
 pub mod Rebuild
 pub mod Words
 pub mod Ranks
+pub mod Found
 pub mod Holding

@@ -1,10 +1,12 @@
 -- The prefix at a rank says on which side of it another prefix's rank lies: a set prefix below counts, and no more than its rank lie below it. Assumes nothing.
-use Prim.Native.Nat.{ℕ, _+_, _^_, _<_, _≤_}
-use mathlib.Core.Path.{_≡_, sym, ap, _∙_}
+use Prim.Native.Nat.{ℕ, _+_, _*_, _%_, _^_, _<_, _≤_}
+use mathlib.Core.Path.{_≡_, sym, ap, _∙_, subst}
 use mathlib.Core.Bool.{true, _&&_}
 use mathlib.Core.List.{List}
+use native.Mathlib.Nat.{one-mul, mod-lt}
 use native.Mathlib.Omega.{arith}
-use lib.Dec.{leb}
+use lib.Pow.{shl-exact, pow-pos}
+use lib.Dec.{lit<, leb}
 use borrow.Author.Tests.{leb-true}
 use Rattle.lists.proofs.Laws.{and-both}
 use Rattle.lists.proofs.Sums.{sum-mono, sum-less}
@@ -38,13 +40,34 @@ module _ {l : List ℕ} (wf : WellFormed l) where
   pub slot-small : (r : ℕ) → r < numbers l .k → seen (numbers l) l .slot r < numbers l .C
   slot-small r h = at r h .in-range
 
+  in-ranges : ((goodP (numbers l .P) ≡ true) × (goodS (numbers l .S) ≡ true)) × (goodC (numbers l .C) ≡ true)
+  in-ranges =
+      let g = numbers l in
+      let psc = and-both (goodP (g .P) && goodS (g .S) && goodC (g .C)) (goodN (g .N)) (wf .ready .header .ranges) .0 in
+      let ps = and-both (goodP (g .P) && goodS (g .S)) (goodC (g .C)) psc in
+      (and-both (goodP (g .P)) (goodS (g .S)) (ps .0), ps .1)
+
+  -- at most 24 prefix bits
+  pub P-small : numbers l .P ≤ 24
+  P-small = let P = numbers l .P in leb-true P 24 (and-both (leb 1 P) (leb P 24) (in-ranges .0 .0) .1)
+
+  -- at most 40 suffix bits
+  pub S-small : numbers l .S ≤ 40
+  S-small = let S = numbers l .S in leb-true S 40 (and-both (leb 1 S) (leb S 40) (in-ranges .0 .1) .1)
+
+  -- how many prefixes there may be, as the code makes it
+  pub span-is : (p : ℕ) → p ≡ numbers l .P → (1 * 2 ^ p) % 2 ^ 64 ≡ 2 ^ numbers l .P
+  span-is p e = shl-exact {a = 1} 1 p 64 (lit< tt) (omega (arith, P-small)) ∙ one-mul _ ∙ ap (λ (k : ℕ). 2 ^ k) e
+
+  -- a number modulo that is a prefix
+  pub in-span : (p x : ℕ) → p ≡ numbers l .P → x % ((1 * 2 ^ p) % 2 ^ 64) < 2 ^ numbers l .P
+  in-span p x e = subst (λ (k : ℕ). x % k < 2 ^ numbers l .P) (sym (span-is p e)) (mod-lt x (pow-pos (numbers l .P)))
+
   -- at most 65,536 containers are in use
   pub k-small : numbers l .k ≤ 65536
   k-small =
       let g = numbers l in
-      let r = wf .ready .header .ranges in
-      let c : goodC (g .C) ≡ true = and-both (goodP (g .P) && goodS (g .S)) (goodC (g .C)) (and-both (goodP (g .P) && goodS (g .S) && goodC (g .C)) (goodN (g .N)) r .0) .1 in
-      omega (arith, k-fits g (seen g l) (wf .shape .placed) (seen-bits g l), leb-true (g .C) 65536 (and-both (leb 1 (g .C)) (leb (g .C) 65536) c .1))
+      omega (arith, k-fits g (seen g l) (wf .shape .placed) (seen-bits g l), leb-true (g .C) 65536 (and-both (leb 1 (g .C)) (leb (g .C) 65536) (in-ranges .1) .1))
 
   -- the rank of a set prefix is in use
   pub rank-in-use : (p : ℕ) → p < 2 ^ numbers l .P → seen (numbers l) l .bit p ≡ 1 → rankOf (numbers l) (seen (numbers l) l) p < numbers l .k

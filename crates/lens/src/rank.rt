@@ -13,7 +13,7 @@ use std::num::wrapping_add_usize;
 const LOOKS: usize = 6;
 
 // Below this many containers halving is as quick.
-const MANY: usize = 64;
+pub(crate) const MANY: usize = 64;
 
 // Where the rank of a prefix lies: from low to high.
 pub struct Window {
@@ -22,7 +22,7 @@ pub struct Window {
 }
 
 // So many containers as d prefixes in a row would have, of k among 2^bits.
-fn share(d: usize, k: usize, bits: usize) -> usize {
+pub(crate) fn share(d: usize, k: usize, bits: usize) -> usize {
     ((d % 16777216) * (k % 131072)) >> (bits % 64)
 }
 
@@ -41,7 +41,7 @@ fn within(g: usize, low: usize, high: usize) -> usize
 }
 
 // The place so many before m, or the first.
-fn before(m: usize, d: usize) -> usize {
+pub(crate) fn before(m: usize, d: usize) -> usize {
     if d < m {
         return m - d;
     }

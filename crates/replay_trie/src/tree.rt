@@ -5,6 +5,7 @@ ghost use Prim.Native.Nat.{_*_, _^_, _≤_, _<_};
 ghost use lib.ListN.{length};
 ghost use Rattle.arena.specs.Arena.{nodesIn, Root, Arena};
 use arena::read;
+use arena_check::Verdict;
 use trie::Inserted;
 use trie::Removed;
 use trie_pour::Planting;
@@ -81,7 +82,10 @@ fn is_arena(arena: &[u64], b: usize, used: usize) -> bool
     if b > 5 {
         return false;
     }
-    arena_check::well_formed(arena, SLOTS, used, b)
+    match arena_check::well_formed(arena, SLOTS, used, b) {
+        Verdict::Malformed => false,
+        Verdict::Sound(_, _) => true,
+    }
 }
 
 // Whether it is, and the node a root there.

@@ -15,3 +15,4 @@ pub mod TakeSlots
 pub mod TakeLooks
 pub mod TakeRest
 pub mod TakeWhole
+pub mod TakeBlocks

@@ -25,7 +25,7 @@ keep-append t (x ∷ xs) ys = go (t x) (keep-append t xs ys)
     go true e = ap (λ (zs : List ℕ). x ∷ zs) e
     go false e = e
 
-map-append : (f : ℕ → ℕ) (xs ys : List ℕ) → map f (xs ++ ys) ≡ map f xs ++ map f ys
+pub map-append : (f : ℕ → ℕ) (xs ys : List ℕ) → map f (xs ++ ys) ≡ map f xs ++ map f ys
 map-append f [] ys = refl
 map-append f (x ∷ xs) ys = ap (λ (zs : List ℕ). f x ∷ zs) (map-append f xs ys)
 

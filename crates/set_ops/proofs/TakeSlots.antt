@@ -117,7 +117,3 @@ pub poured-reads : {l m : List ℕ} (w : ℕ) → Ended (pouring (w ∷ []) l) l
 poured-reads {l} {m} w h = by-test (hasRoom Code.Insert w (reading l))
     (λ e. h .reads .reads ∙ ap (λ (o : Run). o .reading) (run-on (one w) [] (reading l) e) ∙ unfold run in refl)
     (λ e. absurd (true≢false (sym (ap (λ (o : Run). o .stopped) (run-stop (one w) [] (reading l) e)) ∙ h .went-on)))
-
--- no word leaves the reading
-pub none-reads : {l m : List ℕ} → Ended (pouring [] l) l m → reading m ≡ reading l
-none-reads {l} {m} h = h .reads .reads ∙ unfold run in refl

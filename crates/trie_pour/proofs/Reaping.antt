@@ -85,11 +85,14 @@ pub record Reaped (N b used : ℕ) (l₀ : List ℕ) (root n : ℕ) (out : List 
   pub long : n ≤ length out
   pub now : Became N b used l₀ root (drop i (take n out)) left l
 
+pub reaped-from : (N b used : ℕ) (l : List ℕ) (root n : ℕ) (out : List ℕ) (i : ℕ) → Arena N b used l → Root (nodesIn N l) N root → n ≤ length out → i < n → members (nodesIn N l) b root ≡ drop i (take n out) → Reaped N b used l root n out i used l
+reaped-from N b used l root n out i a rt h hi e = record { inside = hi; long = h; now = became-same N b used l root (drop i (take n out)) a rt e }
+
 pub reaped-none : (N b used : ℕ) (l : List ℕ) (root n : ℕ) (out : List ℕ) → Arena N b used l → Root (nodesIn N l) N root → n ≤ length out → members (nodesIn N l) b root ≡ take n out → Reaped N b used l root n out 0 used l
 reaped-none N b used l root n out a rt h e =
     let s = has-some N b used l root a rt in
     let q : length (members (nodesIn N l) b root) ≡ n = ap length e ∙ length-take-le n out h in
-    record { inside = omega arith; long = h; now = became-same N b used l root (take n out) a rt e }
+    reaped-from N b used l root n out 0 a rt h (omega arith) e
 
 module _ {N b used : ℕ} {l₀ : List ℕ} {root n : ℕ} {out : List ℕ} {i left : ℕ} {l : List ℕ} (g : Reaped N b used l₀ root n out i left l) where
   abbrev have : List ℕ
@@ -122,13 +125,15 @@ module _ {N b used : ℕ} {l₀ : List ℕ} {root n : ℕ} {out : List ℕ} {i l
       none [] e = refl
       none (x ∷ xs) e = absurd (omega arith)
 
+  -- with the least taken out, the next are left
+  pub rest : without (getD out i 0) have ≡ drop (i + 1) (take n out)
+  rest = ap (without (getD out i 0)) first ∙ without-head (getD out i 0) (drop (i + 1) (take n out)) later
+
+  pub reaped-on : (k : ℕ) → k < n → (u : ℕ) (l′ : List ℕ) → Became N b left l root (drop k (take n out)) u l′ → Reaped N b used l₀ root n out k u l′
+  reaped-on k h u l′ a = record { inside = h; long = g .long; now = became-then N b used l₀ root (drop i (take n out)) left l (drop k (take n out)) u l′ (g .now) a }
+
   pub reaped-more : i + 1 < n → (u : ℕ) (l′ : List ℕ) → Became N b left l root (without (getD out i 0) have) u l′ → Reaped N b used l₀ root n out (i + 1) u l′
-  reaped-more h u l′ a = record {
-    inside = h;
-    long = g .long;
-    now = subst (λ (ss : List ℕ). Became N b used l₀ root ss u l′) (ap (without (getD out i 0)) first ∙ without-head (getD out i 0) (drop (i + 1) (take n out)) later)
-        (became-then N b used l₀ root (drop i (take n out)) left l (without (getD out i 0) have) u l′ (g .now) a);
-  }
+  reaped-more h u l′ a = reaped-on (i + 1) h u l′ (subst (λ (ss : List ℕ). Became N b left l root ss u l′) rest a)
 
   pub reaped-all : (u : ℕ) (l′ : List ℕ) → Vanished N b left l root u l′ → Vanished N b used l₀ root u l′
   reaped-all u l′ a = vanished-then N b used l₀ root (drop i (take n out)) left l u l′ (g .now) a

@@ -57,9 +57,13 @@ fn nodes(strip: &[u64], b: usize) -> usize
 {
     let mut n: usize = 1;
     let mut j: usize = 1;
-    while j < b {
+    while j + 1 < b {
         n += heads(strip, b, j);
         j += 1;
+    }
+    // The last length apart: what is called at two places is not merged into its callers, so that an insert sets up no stack for `heads`.
+    if j < b {
+        n += heads(strip, b, j);
     }
     n
 }

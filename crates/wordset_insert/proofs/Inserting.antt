@@ -144,14 +144,7 @@ module _ {l : List ℕ} {w p s : ℕ} (a : Parted l w p s) where
 
   -- The prefix is clear
 
-  module _ (t : Bool) (et : t ≡ eqb (v .bit p) 1) (i : t ≡ false) where
-    -- the bit as it is tested
-    pub is-clear : v .bit p ≡ 0
-    is-clear =
-        let ne = eqb-false (v .bit p) 1 (sym et ∙ i) in
-        let b : v .bit p < 2 = seen-bits g l p in
-        omega arith
-
+  module _ (is-clear : v .bit p ≡ 0) where
     model-clear : v .bit (prefixOf (g .S) w) ≡ 0
     model-clear = ap (v .bit) (sym (a .prefix-is)) ∙ is-clear
 
@@ -177,9 +170,6 @@ module _ {l : List ℕ} {w p s : ℕ} (a : Parted l w p s) where
   -- The prefix is set
 
   -- the bit as it is tested
-  pub is-set : (t : Bool) → t ≡ eqb (v .bit p) 1 → t ≡ true → v .bit p ≡ 1
-  is-set t = bit-set l (a .wf) w (a .small) (g .S) refl p (a .prefix-is) t
-
   module _ (set : v .bit p ≡ 1) {c : ℕ} (ec : c ≡ v .slot (rankOf g v p)) where
     abbrev held : List ℕ
     held = suffixes g v c

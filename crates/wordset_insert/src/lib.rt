@@ -6,7 +6,8 @@ ghost use Rattle.region.specs.Areas.{numbers};
 ghost use Rattle.region.specs.Seen.{seen};
 ghost use Rattle.region.specs.WellFormed.{WellFormed};
 ghost use Rattle.wordset_insert.specs.Answers.{InsertedAs};
-use lens::rank;
+use lens::find::Place;
+use lens::find::find;
 use lens::read;
 use strip::trievec::TrieVec;
 use wordset_cross::grow;
@@ -42,8 +43,8 @@ pub fn insert_at(region: &mut [u64], c: usize, s: u64) -> Outcome
     Outcome::NoRoom
 }
 
-// Inserts the word w. Refused exactly when the set with it would not fit; then nothing is changed.
-pub fn insert(region: &mut [u64], w: u64) -> Outcome
+// Inserts the word w; the hint, any number, is where its container may stand. Refused exactly when the set with it would not fit; then nothing is changed.
+pub fn insert(region: &mut [u64], w: u64, hint: usize) -> Outcome
     requires { ⌜ WellFormed (now region) ⌝ }
     requires { ⌜ w < 2 ^ (numbers (now region) .P + numbers (now region) .S) ⌝ }
     ensures { λ r. ⌜ InsertedAs w (now (region .entry)) r (now (region .exit)) ⌝ }
@@ -51,13 +52,14 @@ pub fn insert(region: &mut [u64], w: u64) -> Outcome
     let bits = read::s(region);
     let p = prefix_of(w, bits);
     let s = suffix_of(w, bits);
-    if !read::bit(region, p) {
-        if read::k(region) >= read::c(region) {
-            return Outcome::NoRoom;
+    match find(region, p, hint) {
+        Place::At(c) => insert_at(region, c, s),
+        Place::Nowhere => {
+            if read::k(region) >= read::c(region) {
+                return Outcome::NoRoom;
+            }
+            open(region, p, s);
+            Outcome::New
         }
-        open(region, p, s);
-        return Outcome::New;
     }
-    let c = rank::slot_of(region, p);
-    insert_at(region, c, s)
 }

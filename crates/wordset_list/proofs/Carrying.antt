@@ -25,7 +25,7 @@ use Rattle.wordset_list.specs.Performing.{AnsweredAs, StoppedAs, continu
 use Rattle.wordset_list.proofs.Judging.{passes}
 
 -- the words past the total are the same words where the four numbers are kept
-past-kept : {r r′ : Reading} → Kept r r′ → (m : List ℕ) → past r′ m ≡ past r m
+pub past-kept : {r r′ : Reading} → Kept r r′ → (m : List ℕ) → past r′ m ≡ past r m
 past-kept {r} {r′} k m =
     ap (λ (p : ℕ). drop (total p (r′ .C) (r′ .N)) m) (k .P)
     ∙ ap (λ (c : ℕ). drop (total (r .P) c (r′ .N)) m) (k .C)

@@ -47,6 +47,11 @@ module _ (t : ℕ → Bool) where
   passes (x ∷ xs) zero l h = by-test (t x) (λ e. e) (λ e. absurd (omega (arith, at-bad x xs e)))
   passes (x ∷ xs) (suc i) l h = by-test (t x) (λ e. passes xs i (omega (arith, at-start x xs e)) (omega arith)) (λ e. absurd (omega (arith, at-bad x xs e)))
 
+  -- where each entry passes, the first that fails is past the end
+  pub past-end : (xs : List ℕ) → ((i : ℕ) → i < length xs → t (getD xs i 0) ≡ true) → length xs ≤ firstBad t xs
+  past-end [] h = omega arith
+  past-end (x ∷ xs) h = omega (arith, at-start x xs (h 0 (omega arith)), past-end xs (λ i k. h (suc i) (omega arith)))
+
   -- entry i passes: all do if those behind it do
   pub all-more : (xs : List ℕ) (i : ℕ) → i < length xs → t (getD xs i 0) ≡ true → all t (drop i xs) ≡ all t (drop (suc i) xs)
   all-more xs i h g = ap (all t) (drop-cons xs i 0 h) ∙ ap (λ (b : Bool). b && all t (drop (suc i) xs)) g

@@ -1,5 +1,9 @@
 pub mod Judging
 pub mod Answering
 pub mod Carrying
+pub mod Runs
+pub mod Parts
+pub mod Looking
+pub mod Joining
 pub mod Telling
 pub mod TwoRuns

@@ -1,15 +1,16 @@
 -- What one command of a list does, and a run of them. l is the region at entry and l′ at exit. No promise cites it. Assumes nothing.
 use Prim.Native.Nat.{ℕ, _≤_}
 use mathlib.Core.Path.{_≡_}
-use mathlib.Core.Bool.{true, false}
+use mathlib.Core.Bool.{Bool, true, false, not}
 use mathlib.Core.List.{List, _++_}
+use lib.Dec.{eqb, ltb}
 use lib.ListN.{length, take, drop}
 use Rattle.model.specs.Reading.{has}
 use Rattle.model.specs.Commands.{Code, codeOf, commands, answer, changed, hasRoom, Run, run}
 use Rattle.model.specs.Demands.{Kept}
 use Rattle.region.specs.Read.{reading}
 use Rattle.region.specs.WellFormed.{WellFormed}
-use Rattle.promises.specs.Refusals.{Told, tell}
+use Rattle.promises.specs.Refusals.{Told, when, tell}
 use Rattle.promises.specs.Reads.{past, ReadsAs}
 use Rattle.promises.specs.List.{outcome, noRoom, Ran}
 use Rattle.wordset_list.specs.declared.commands.Performed.{Performed}
@@ -50,3 +51,15 @@ pub record Going (region codes words answers : List ℕ) (i : ℕ) (region′ an
 pub record RanAs (region codes words answers : List ℕ) (told : Told (Unit {0})) (region′ answers′ : List ℕ) : Type 0 where
   pub tells : told ≡ tell (noRoom (outcome region codes words)) tt
   pub leaves : Ran region answers (outcome region codes words) region′ answers′
+
+-- code 0
+abbrev pub isLookup : ℕ → Bool
+isLookup c = eqb c 0
+
+-- an answer that is not 0
+abbrev pub isYes : ℕ → Bool
+isYes a = not (eqb a 0)
+
+-- a block of n commands told by how many were answered: fewer than n if command k found no room
+abbrev pub upTo : ℕ → ℕ → Told (Unit {0})
+upTo k n = tell (when (ltb k n) 9 k) tt

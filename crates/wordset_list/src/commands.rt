@@ -1,18 +1,21 @@
-// The commands of a list, one after the other, on a region that is known to be well formed.
+// The commands of a list, block by block and in order, on a region that is known to be well formed.
 ghost use mathlib.Core.Path.{_≡_};
 ghost use Prim.Native.Nat.{_+_, _^_, _≤_, _<_};
 ghost use lib.ListN.{length};
-ghost use Rattle.lists.specs.Lists.{firstBad};
+ghost use Rattle.lists.specs.Lists.{all, firstBad};
 ghost use Rattle.model.specs.Commands.{knownCode};
 ghost use Rattle.region.specs.Areas.{numbers};
 ghost use Rattle.region.specs.Read.{reading};
 ghost use Rattle.region.specs.WellFormed.{WellFormed};
 ghost use Rattle.promises.specs.Answers.{listed};
 ghost use Rattle.promises.specs.List.{wordOf};
-ghost use Rattle.wordset_list.specs.Performing.{PerformedAs, RanAs};
+ghost use Rattle.wordset_list.specs.Performing.{PerformedAs, RanAs, isLookup, upTo};
+use crate::blocks::end_of;
+use lens::hints::guess;
 use promises::Listed;
 use wordset_insert::insert;
 use wordset_lookup::contains;
+use wordset_lookup::each::contains_each;
 use wordset_remove::remove;
 use wordset_trie::Outcome;
 
@@ -22,30 +25,99 @@ pub enum Performed {
     NoRoom,
 }
 
-// Performs one command: 0 lookup, 1 insert, 2 remove.
-pub fn perform(region: &mut [u64], code: u8, w: u64) -> Performed
+// Performs one command: 0 lookup, 1 insert, 2 remove. The hint says where its slot may be.
+pub fn perform(region: &mut [u64], code: u8, w: u64, hint: usize) -> Performed
     requires { ⌜ WellFormed (now region) ⌝ }
     requires { ⌜ w < 2 ^ (numbers (now region) .P + numbers (now region) .S) ⌝ }
     requires { ⌜ code ≤ 2 ⌝ }
     ensures { λ r. ⌜ PerformedAs code w (now (region .entry)) r (now (region .exit)) ⌝ }
 {
     if code == 0 {
-        if contains(region, w) {
+        if contains(region, w, hint) {
             return Performed::Answered(1);
         }
         return Performed::Answered(0);
     }
     if code == 1 {
-        return match insert(region, w) {
+        return match insert(region, w, hint) {
             Outcome::New => Performed::Answered(1),
             Outcome::Old => Performed::Answered(0),
             Outcome::NoRoom => Performed::NoRoom,
         };
     }
-    if remove(region, w) {
+    if remove(region, w, hint) {
         return Performed::Answered(1);
     }
     Performed::Answered(0)
+}
+
+// Whether all codes are 0.
+fn all_lookups(codes: &[u8]) -> bool
+    ensures { λ r. ⌜ r ≡ all isLookup (now (codes .entry)) ⌝ }
+{
+    let mut i: usize = 0;
+    while i < codes.len() {
+        if codes[i] != 0 {
+            return false;
+        }
+        i += 1;
+    }
+    true
+}
+
+// Runs a block one command after the other, up to the first that finds no room: how many were answered.
+fn run_each(
+    region: &mut [u64],
+    codes: &[u8],
+    words: &[u64],
+    hints: &[u64; 16],
+    answers: &mut [u8],
+) -> usize
+    requires { ⌜ WellFormed (now region) ⌝ }
+    requires { ⌜ length (now codes) ≡ length (now words) ⌝ }
+    requires { ⌜ length (now words) ≤ 16 ⌝ }
+    requires { ⌜ length (now words) ≤ length (now answers) ⌝ }
+    requires { ⌜ length (now codes) ≤ firstBad knownCode (now codes) ⌝ }
+    requires { ⌜ length (now words) ≤ firstBad (wordOf (reading (now region))) (now words) ⌝ }
+    ensures { λ r. ⌜ RanAs (now (region .entry)) (now (codes .entry)) (now (words .entry)) (now (answers .entry)) (upTo r (length (now (words .entry)))) (now (region .exit)) (now (answers .exit)) ⌝ }
+{
+    let mut i: usize = 0;
+    while i < words.len() {
+        match perform(region, codes[i], words[i], hints[i] as usize) {
+            Performed::Answered(a) => {
+                answers[i] = a;
+            }
+            Performed::NoRoom => {
+                return i;
+            }
+        }
+        i += 1;
+    }
+    i
+}
+
+// Runs a block: its slots are guessed side by side, and lookups alone are answered side by side, since they change nothing.
+fn run_block(
+    region: &mut [u64],
+    codes: &[u8],
+    words: &[u64],
+    hints: &mut [u64; 16],
+    answers: &mut [u8],
+) -> usize
+    requires { ⌜ WellFormed (now region) ⌝ }
+    requires { ⌜ length (now codes) ≡ length (now words) ⌝ }
+    requires { ⌜ length (now words) ≤ 16 ⌝ }
+    requires { ⌜ length (now words) ≤ length (now answers) ⌝ }
+    requires { ⌜ length (now codes) ≤ firstBad knownCode (now codes) ⌝ }
+    requires { ⌜ length (now words) ≤ firstBad (wordOf (reading (now region))) (now words) ⌝ }
+    ensures { λ r. ⌜ RanAs (now (region .entry)) (now (codes .entry)) (now (words .entry)) (now (answers .entry)) (upTo r (length (now (words .entry)))) (now (region .exit)) (now (answers .exit)) ⌝ }
+{
+    guess(region, words, hints);
+    if all_lookups(codes) {
+        contains_each(region, words, hints, answers);
+        return words.len();
+    }
+    run_each(region, codes, words, hints, answers)
 }
 
 // Runs a list that was judged good, up to the first command that finds no room.
@@ -57,17 +129,21 @@ pub fn run(region: &mut [u64], codes: &[u8], words: &[u64], answers: &mut [u8]) 
     requires { ⌜ length (now words) ≤ firstBad (wordOf (reading (now region))) (now words) ⌝ }
     ensures { λ r. ⌜ RanAs (now (region .entry)) (now (codes .entry)) (now (words .entry)) (now (answers .entry)) (listed r) (now (region .exit)) (now (answers .exit)) ⌝ }
 {
+    let mut hints: [u64; 16] = [0; 16];
     let mut i: usize = 0;
     while i < words.len() {
-        match perform(region, codes[i], words[i]) {
-            Performed::Answered(a) => {
-                answers[i] = a;
-            }
-            Performed::NoRoom => {
-                return Listed::NoRoom(i);
-            }
+        let end = end_of(i, words.len());
+        let done = run_block(
+            region,
+            &codes[i..end],
+            &words[i..end],
+            &mut hints,
+            &mut answers[i..end],
+        );
+        if done < end - i {
+            return Listed::NoRoom(i + done);
         }
-        i += 1;
+        i = end;
     }
     Listed::Done
 }

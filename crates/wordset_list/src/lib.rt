@@ -13,6 +13,7 @@ use lens::read;
 use promises::Asked;
 use promises::Listed;
 
+mod blocks;
 pub mod commands;
 pub mod judge;
 mod members;

@@ -105,34 +105,47 @@ module _ (l : List ℕ) (wf : WellFormed l) where
         non-empty = subst (λ (m : Nodes). AllNonEmpty m (g .N)) (sym nodes-are) (li .non-empty);
       }
 
-  module _ (c : ℕ) (h : c < g .C) (k : v .kind c ≡ 2) where
-    root : Root (nodesIn (g .N) arenaPart) (g .N) (v .link c)
-    root = let t : Trie g v c = wf .shape .held .trie c h k in subst (λ (m : Nodes). Root m (g .N) (v .link c)) (sym nodes-are) (record { in-range = t .root-in-range; level = t .root-level })
+  module _ (n b : ℕ) (en : n ≡ g .N) (eb : b ≡ bytesOf (g .S)) where
+    -- what a search asks
+    pub tries-ready : Tries n b arenaPart × ((1 ≤ b) × (b ≤ 5))
+    tries-ready = (
+      subst (λ (z : ℕ). Tries z b arenaPart) (sym en) (subst (λ (z : ℕ). Tries (g .N) z arenaPart) (sym eb) tries),
+      (omega (arith, ranges .0), omega (arith, ranges .1)),
+    )
 
-    suffixes-trie : suffixes g v c ≡ members (v .node) (bytesOf (g .S)) (v .link c)
-    unfolding suffixes
-    suffixes-trie = rw (eq-eqb (v .kind c) 2 k)
+    pub root-ready : (r : ℕ) → Root (v .node) (g .N) r → Root (nodesIn n arenaPart) n r
+    root-ready r h = subst (λ (z : ℕ). Root (nodesIn z arenaPart) z r) (sym en) (subst (λ (m : Nodes). Root m (g .N) r) (sym nodes-are) h)
+
+    pub suffix-ready : (s : ℕ) → s < 2 ^ g .S → s < 2 ^ (8 * b)
+    suffix-ready s small = subst (λ (z : ℕ). s < 2 ^ (8 * z)) (sym eb) (bytes-cover (g .S) s small)
+
+    -- and what it reads
+    pub members-are : (r : ℕ) → members (nodesIn n arenaPart) b r ≡ members (v .node) (bytesOf (g .S)) r
+    members-are r =
+        ap (λ (z : ℕ). members (nodesIn z arenaPart) b r) en
+        ∙ ap (λ (z : ℕ). members (nodesIn (g .N) arenaPart) z r) eb
+        ∙ ap (λ (z : Nodes). members z (bytesOf (g .S)) r) nodes-are
+
+  pub kind-two : (c : ℕ) → c < g .C → v .kind c ≢ 0 → v .kind c ≢ 1 → v .kind c ≡ 2
+  kind-two c h used ne = let t : v .kind c ≤ 2 = wf .shape .placed .kinds c h in omega arith
+
+  module _ (c : ℕ) (h : c < g .C) (k : v .kind c ≡ 2) where
+    module _ (r : ℕ) (er : r ≡ v .link c) where
+      pub root-of : Root (v .node) (g .N) r
+      root-of = let t : Trie g v c = wf .shape .held .trie c h k in subst (Root (v .node) (g .N)) (sym er) (record { in-range = t .root-in-range; level = t .root-level })
+
+      pub suffixes-trie : members (v .node) (bytesOf (g .S)) r ≡ suffixes g v c
+      unfolding suffixes
+      suffixes-trie = rw (eq-eqb (v .kind c) 2 k) (ap (members (v .node) (bytesOf (g .S))) er)
 
     module _ (n b r : ℕ) (en : n ≡ g .N) (eb : b ≡ bytesOf (g .S)) (er : r ≡ v .link c) where
-      -- what the search asks
       pub trie-ready : (s : ℕ) → s < 2 ^ g .S → Tries n b arenaPart × (Root (nodesIn n arenaPart) n r × ((1 ≤ b) × ((b ≤ 5) × (s < 2 ^ (8 * b)))))
-      trie-ready s small = (
-        subst (λ (z : ℕ). Tries z b arenaPart) (sym en) (subst (λ (z : ℕ). Tries (g .N) z arenaPart) (sym eb) tries),
-        (
-          subst (λ (z : ℕ). Root (nodesIn z arenaPart) z r) (sym en) (subst (Root (nodesIn (g .N) arenaPart) (g .N)) (sym er) root),
-          (omega (arith, ranges .0), (omega (arith, ranges .1), subst (λ (z : ℕ). s < 2 ^ (8 * z)) (sym eb) (bytes-cover (g .S) s small))),
-        ),
-      )
+      trie-ready s small =
+          let t = tries-ready n b en eb in
+          (t .0, (root-ready n b en eb r (root-of r er), (t .1 .0, (t .1 .1, suffix-ready n b en eb s small))))
 
-      -- and what it says
       pub trie-says : (s : ℕ) (found : Bool) → found ≡ mem s (members (nodesIn n arenaPart) b r) → found ≡ mem s (suffixes g v c)
-      trie-says s found e =
-          e
-          ∙ ap (λ (z : ℕ). mem s (members (nodesIn z arenaPart) b r)) en
-          ∙ ap (λ (z : ℕ). mem s (members (nodesIn (g .N) arenaPart) z r)) eb
-          ∙ ap (λ (z : ℕ). mem s (members (nodesIn (g .N) arenaPart) (bytesOf (g .S)) z)) er
-          ∙ ap (λ (z : Nodes). mem s (members z (bytesOf (g .S)) (v .link c))) nodes-are
-          ∙ ap (mem s) (sym suffixes-trie)
+      trie-says s found e = e ∙ ap (mem s) (members-are n b en eb r ∙ suffixes-trie r er)
 
   -- A word
 
@@ -159,14 +172,14 @@ module _ (l : List ℕ) (wf : WellFormed l) where
       pub slot-fits : c < g .C
       slot-fits = subst (λ (z : ℕ). z < g .C) (sym ec) (slot-small wf (rankOf g v p) (rank-in-use wf p prefix-fits set))
 
+      pub slot-used : v .kind c ≢ 0
+      slot-used z = wf .shape .placed .borne p prefix-fits set .in-use (ap (v .kind) (sym ec) ∙ z)
+
       pub slot-kind : v .kind c ≢ 1 → v .kind c ≡ 2
-      slot-kind ne =
-          let u : v .kind c ≢ 0 = λ z. wf .shape .placed .borne p prefix-fits set .in-use (ap (v .kind) (sym ec) ∙ z) in
-          let t : v .kind c ≤ 2 = wf .shape .placed .kinds c slot-fits in
-          omega arith
+      slot-kind = kind-two c slot-fits slot-used
 
       module _ (s : ℕ) (es : s ≡ suffixOf bits w) where
-        suffix-is : s ≡ suffixOf (g .S) w
+        pub suffix-is : s ≡ suffixOf (g .S) w
         suffix-is = es ∙ ap (λ (z : ℕ). suffixOf z w) eb
 
         pub suffix-fits : s < 2 ^ g .S

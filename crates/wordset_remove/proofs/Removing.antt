@@ -203,12 +203,8 @@ module _ (l : List ℕ) (wf : WellFormed l) where
       prefix-is = ep ∙ ap (λ (z : ℕ). prefixOf z w) eb
 
       -- no container
-      pub clear-did : (t : Bool) → t ≡ eqb (v .bit p) 1 → t ≡ false → Did Code.Remove w l false l
-      clear-did t e i =
-          let ne = eqb-false (v .bit p) 1 (sym e ∙ i) in
-          let b : v .bit p < 2 = seen-bits g l p in
-          let z : v .bit p ≡ 0 = omega arith in
-          record { room = refl; was = clear-answer l wf w small bits eb p ep t e i; reads = clear-reads (ap (v .bit) (sym prefix-is) ∙ z) }
+      pub clear-did : v .bit p ≡ 0 → Did Code.Remove w l false l
+      clear-did z = record { room = refl; was = clear-answer l wf w small bits eb p ep false (sym (ap (λ (y : ℕ). eqb y 1) z)) refl; reads = clear-reads (ap (v .bit) (sym prefix-is) ∙ z) }
 
       -- the container in slot c
       pub set-did : v .bit p ≡ 1 → (c : ℕ) → c ≡ v .slot (rankOf g v p) → (s : ℕ) → s ≡ suffixOf bits w → (m : Bool) (l′ : List ℕ) → LeftAs c s l m l′ → Did Code.Remove w l m l′

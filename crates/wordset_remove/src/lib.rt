@@ -7,7 +7,8 @@ ghost use Rattle.region.specs.Seen.{seen};
 ghost use Rattle.region.specs.WellFormed.{WellFormed};
 ghost use Rattle.steps.specs.Commands.{Did};
 ghost use Rattle.wordset_remove.specs.Answers.{LeftAs};
-use lens::rank;
+use lens::find::Place;
+use lens::find::find as find_slot;
 use lens::read;
 use strip::Found;
 use strip::search::find;
@@ -53,21 +54,22 @@ fn from_trie(region: &mut [u64], c: usize, s: u64) -> bool
     wordset_trie::take(region, c, s)
 }
 
-// Removes the word w, if it is a member: whether it was one. Removing the last suffix of a prefix frees its container.
-pub fn remove(region: &mut [u64], w: u64) -> bool
+// Removes the word w, if it is a member: whether it was one. The hint, any number, is where its container may stand. Removing the last suffix of a prefix frees its container.
+pub fn remove(region: &mut [u64], w: u64, hint: usize) -> bool
     requires { ⌜ WellFormed (now region) ⌝ }
     requires { ⌜ w < 2 ^ (numbers (now region) .P + numbers (now region) .S) ⌝ }
     ensures { λ r. ⌜ Did Code.Remove w (now (region .entry)) r (now (region .exit)) ⌝ }
 {
     let bits = read::s(region);
     let p = prefix_of(w, bits);
-    if !read::bit(region, p) {
-        return false;
+    match find_slot(region, p, hint) {
+        Place::At(c) => {
+            let s = suffix_of(w, bits);
+            if read::kind(region, c) == 1 {
+                return from_vector(region, c, s);
+            }
+            from_trie(region, c, s)
+        }
+        Place::Nowhere => false,
     }
-    let c = rank::slot_of(region, p);
-    let s = suffix_of(w, bits);
-    if read::kind(region, c) == 1 {
-        return from_vector(region, c, s);
-    }
-    from_trie(region, c, s)
 }

@@ -1,4 +1,5 @@
 pub mod Shifting
+pub mod Moving
 pub mod Writing
 pub mod Counting
 pub mod Elsewhere

@@ -482,6 +482,21 @@ impl Table {
         self.rows.push(Row { shape: shape.into(), step, unit, times: [port, rust, judy, roaring], most });
     }
 
+    /// The rows whose ratio to the Rust is above what is asked.
+    fn above(&self) -> String {
+        let ratio = |row: &Row| row.times[0] / row.times[1];
+        let rows: Vec<String> = self
+            .rows
+            .iter()
+            .filter(|row| ratio(row) > row.most)
+            .map(|row| format!("{}, {}: {:.2}, asked {:.2}", row.shape, row.step, ratio(row), row.most))
+            .collect();
+        match rows.is_empty() {
+            true => "Every row is within what is asked.".into(),
+            false => format!("Above what is asked, in this run:\n{}", rows.join("\n")),
+        }
+    }
+
     /// One bar a row: the port's time over the Rust's, on a scale where equal lengths are equal factors.
     fn picture(&self) -> String {
         let (left, wide, high, top) = (330.0, 520.0, 17.0, 46.0);
@@ -611,17 +626,29 @@ fn main() {
     }
 
     println!();
-    println!("The check, and a list of 4,096 lookups through the exported entry, which checks first");
-    println!("{:<33} | {:>9} | {:>10} | {:>9} | {:>7} | {:>12} | {:>14}", "shape", "check, us", "words seen", "memcpy us", "ratio", "list, us", "the check's part");
+    println!("{}", table.above());
+    println!();
+    println!("The check, and a list of 4,096 lookups through the exported entry, which checks first. A vector's distinctness is apart:");
+    println!("the check's second column is of vectors whose entries ascend, which are told distinct by one look at each entry. The words");
+    println!("seen are copied twice: as so many in a row, and from where they lie; the ratios are of the second column to each.");
+    println!(
+        "{:<33} | {:>9} | {:>10} | {:>10} | {:>9} | {:>6} | {:>10} | {:>6} | {:>9} | {:>14}",
+        "shape", "check, us", "ascending", "words seen", "in a row", "ratio", "where laid", "ratio", "list, us", "the check's part"
+    );
     for shape in shapes.iter().chain([&shape]) {
         let mut region = ported(shape.sizes, &shape.members, &shape.members).into_region();
-        let (time, seen, copied) = (check(&region), looked_at(&region), copy(looked_at(&region)));
-        let words: Vec<u64> = shape.members.iter().cycle().take(4096).copied().collect();
+        let (time, seen) = (check(&region), looked_at(&region));
+        let words: usize = seen.iter().map(|run| run.len()).sum();
+        let (row, laid) = (copy(words), gather(&region, &seen, words));
+        // tries are left as they are: their nodes would lie in another order
+        let apart = if region[6] > 0 { time } else { check(ascending(shape).region()) };
+        let asked: Vec<u64> = shape.members.iter().cycle().take(4096).copied().collect();
         let mut answers = vec![0; 4096];
-        let list = least(|| clocked(|| assert!(brothowl::run(&mut region, &[0; 4096], &words, &mut answers).is_ok())).0);
+        let list = least(|| clocked(|| assert!(brothowl::run(&mut region, &[0; 4096], &asked, &mut answers).is_ok())).0);
         println!(
-            "{:<33} | {:>9.1} | {:>10} | {:>9.1} | {:>7.2} | {:>12.1} | {:>13.0}%",
-            shape.name, time / 1000.0, grouped(seen), copied / 1000.0, time / copied, list / 1000.0, 100.0 * (time / list).min(1.0),
+            "{:<33} | {:>9.1} | {:>10.1} | {:>10} | {:>9.1} | {:>6.2} | {:>10.1} | {:>6.2} | {:>9.1} | {:>13.0}%",
+            shape.name, time / 1000.0, apart / 1000.0, grouped(words), row / 1000.0, apart / row, laid / 1000.0, apart / laid,
+            list / 1000.0, 100.0 * (time / list).min(1.0),
         );
     }
 
@@ -650,33 +677,73 @@ fn main() {
     }
 }
 
-/// How many words of a well-formed region document 01 says are looked at.
-fn looked_at(l: &[u64]) -> usize {
-    let (c, n, k, used, s) = (l[3], l[4], l[5], l[6], l[2]);
-    let b = s.div_ceil(8);
-    let at = |area: usize, place: u64| l[l[8 + area] as usize + place as usize];
-    let mut seen = 16 + (l[9] - l[8]) + k + (c - k) + (n - used);
-    for slot in 0..c {
-        seen += [2, 3, 4][at(3, 4 * slot) as usize];
-        if at(3, 4 * slot) == 1 {
-            seen += at(3, 4 * slot + 2);
-        }
-    }
-    for node in 0..n {
-        let level = at(6, 264 * node + 4);
-        seen += if level == 0 { 2 } else { 7 };
-        if level > 0 && level < b {
-            seen += (0..4).map(|i| u64::from(at(6, 264 * node + i).count_ones())).sum::<u64>();
-        }
-    }
-    seen as usize
+/// The same members, inserted in ascending order.
+fn ascending(shape: &Shape) -> Set {
+    let mut words = shape.members.clone();
+    words.sort_unstable();
+    ported(shape.sizes, &words, &words)
 }
 
-/// A memcpy of so many words.
+/// The words of a well-formed region that document 01 says are looked at: runs of them, as they lie.
+fn looked_at(l: &[u64]) -> Vec<std::ops::Range<usize>> {
+    let [c, n, k, used] = [3, 4, 5, 6].map(|place| l[place] as usize);
+    let last = l[2].div_ceil(8);
+    let area = |which: usize| l[8 + which] as usize;
+    let mut runs: Vec<std::ops::Range<usize>> = Vec::new();
+    let mut look = |start: usize, words: usize| match runs.last_mut() {
+        Some(run) if run.end == start => run.end += words,
+        _ => runs.push(start..start + words),
+    };
+    look(0, 16);
+    look(area(0), area(1) - area(0));
+    look(area(1), k);
+    look(area(2), c - k);
+    // kind and link of a free slot; kind, prefix and length of a vector; all four of a trie
+    for at in (0..c).map(|slot| area(3) + 4 * slot) {
+        match l[at] {
+            0 => {
+                look(at, 1);
+                look(at + 3, 1);
+            }
+            kind => look(at, 2 + kind as usize),
+        }
+    }
+    for slot in (0..c).filter(|slot| l[area(3) + 4 * slot] == 1) {
+        look(area(4) + 1024 * slot, l[area(3) + 4 * slot + 2] as usize);
+    }
+    look(area(5), n - used);
+    for at in (0..n).map(|node| area(6) + 264 * node) {
+        match l[at + 4] {
+            0 => look(at + 4, 2),
+            level => {
+                look(at, 7);
+                let children = |x: &usize| level < last && l[at + x / 64] >> (x % 64) & 1 == 1;
+                (0..256).filter(children).for_each(|x| look(at + 8 + x, 1));
+            }
+        }
+    }
+    runs.retain(|run| !run.is_empty());
+    runs
+}
+
+/// A memcpy of so many words in a row.
 fn copy(words: usize) -> f64 {
     let from = vec![1u64; words];
     let mut to = vec![0u64; words];
     least(|| clocked(|| black_box(&mut to).copy_from_slice(black_box(&from))).0)
+}
+
+/// A copy of words from where they lie.
+fn gather(l: &[u64], runs: &[std::ops::Range<usize>], words: usize) -> f64 {
+    let mut to = vec![0u64; words];
+    let gathered = |to: &mut [u64], l: &[u64]| {
+        let mut at = 0;
+        for run in runs {
+            to[at..at + run.len()].copy_from_slice(&l[run.clone()]);
+            at += run.len();
+        }
+    };
+    least(|| clocked(|| gathered(black_box(&mut to), black_box(l))).0)
 }
 
 /// A lookup of members, by how many there are under one prefix, by how many prefixes there are, and by P.

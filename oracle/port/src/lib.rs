@@ -75,8 +75,26 @@ pub struct Ran {
     pub used: u64,
 }
 
+/// The root of a new trie, REFUSED or NO_ROOM if there is none, and the nodes in use.
+#[repr(C)]
+#[derive(Clone, Copy, Debug, PartialEq, Eq)]
+pub struct Built {
+    pub root: u64,
+    pub used: u64,
+}
+
+pub const NO_ROOM: u64 = u64::MAX - 1;
+
+/// How many suffixes were written, REFUSED if the trie was not poured out, and the nodes in use.
+#[repr(C)]
+#[derive(Clone, Copy, Debug, PartialEq, Eq)]
+pub struct Poured {
+    pub written: u64,
+    pub used: u64,
+}
+
 mod c {
-    use super::Ran;
+    use super::{Built, Poured, Ran};
     unsafe extern "C" {
         pub fn leaf_map_contains(map: *const u64, words: usize, xs: *const u8, many: usize) -> u64;
         pub fn leaf_map_change(
@@ -116,6 +134,75 @@ mod c {
             answers: *mut u8,
             many_answers: usize,
         ) -> Ran;
+        pub fn leaf_arena_check(arena: *const u64, words: usize, slots: u64, used: u64, b: u64) -> u64;
+        pub fn leaf_trie_ask(
+            arena: *const u64,
+            words: usize,
+            slots: u64,
+            used: u64,
+            b: u64,
+            root: u64,
+            suffixes: *const u64,
+            many: usize,
+            answers: *mut u8,
+            many_answers: usize,
+        ) -> u64;
+        pub fn leaf_trie_count(arena: *const u64, words: usize, slots: u64, used: u64, b: u64, root: u64) -> u64;
+        pub fn leaf_trie_walk(
+            arena: *const u64,
+            words: usize,
+            slots: u64,
+            used: u64,
+            b: u64,
+            root: u64,
+            start: u64,
+            out: *mut u64,
+            room: usize,
+        ) -> u64;
+        pub fn leaf_trie_walks(
+            arena: *const u64,
+            words: usize,
+            slots: u64,
+            used: u64,
+            b: u64,
+            root: u64,
+            times: u64,
+            out: *mut u64,
+            room: usize,
+        ) -> u64;
+        pub fn leaf_trie_build(
+            arena: *mut u64,
+            words: usize,
+            slots: u64,
+            used: u64,
+            b: u64,
+            container: u64,
+            strip: *const u64,
+            many: usize,
+        ) -> Built;
+        pub fn leaf_trie_pour(
+            arena: *mut u64,
+            words: usize,
+            slots: u64,
+            used: u64,
+            b: u64,
+            root: u64,
+            out: *mut u64,
+            room: usize,
+        ) -> Poured;
+        pub fn leaf_trie_cross(
+            arena: *mut u64,
+            words: usize,
+            slots: u64,
+            used: u64,
+            b: u64,
+            container: u64,
+            strip: *const u64,
+            many: usize,
+            out: *mut u64,
+            room: usize,
+            times: u64,
+        ) -> u64;
         pub fn leaf_set_run(
             region: *mut u64,
             words: usize,
@@ -225,7 +312,7 @@ pub fn set_walk(region: &[u64], times: u64, out: &mut [u64]) -> u64 {
     unsafe { c::leaf_set_walk(region.as_ptr(), region.len(), times, out.as_mut_ptr(), out.len()) }
 }
 
-/// One trie in an arena of its own.
+/// An arena, with one trie in it or with none at first.
 pub struct Trie {
     pub arena: Vec<u64>,
     pub slots: u64,
@@ -238,6 +325,15 @@ pub const NODE: usize = 264;
 /// Byte j of a suffix, the most significant first.
 pub fn byte(b: u64, s: u64, j: u64) -> usize {
     (s >> (8 * (b - 1 - j)) & 255) as usize
+}
+
+/// The last `free` nodes stacked as free ones.
+fn stack(arena: &mut [u64], slots: u64, free: u64) {
+    for place in 0..free {
+        let node = slots - 1 - place;
+        arena[place as usize] = node;
+        arena[slots as usize + node as usize * NODE + 5] = place;
+    }
 }
 
 impl Trie {
@@ -257,12 +353,15 @@ impl Trie {
                 node[6] = byte(b, suffix, j - 1) as u64;
             }
         }
-        for place in 0..slots - b {
-            let node = slots - 1 - place;
-            arena[place as usize] = node;
-            arena[slots as usize + node as usize * NODE + 5] = place;
-        }
+        stack(&mut arena, slots, slots - b);
         Trie { arena, slots, used: b, b }
+    }
+
+    /// An arena whose nodes are all free, laid out by hand.
+    pub fn none(slots: u64, b: u64) -> Trie {
+        let mut arena = vec![0; slots as usize * (1 + NODE)];
+        stack(&mut arena, slots, slots);
+        Trie { arena, slots, used: 0, b }
     }
 
     /// Codes: 0 asks, 1 inserts, any other removes. The answers end at the first 2: no room, or the last suffix gone.
@@ -285,6 +384,122 @@ impl Trie {
         };
         self.used = ran.used;
         ran.done
+    }
+
+    /// 1 if the arena is well formed, else 0.
+    pub fn check(&self) -> u64 {
+        unsafe { c::leaf_arena_check(self.arena.as_ptr(), self.arena.len(), self.slots, self.used, self.b) }
+    }
+
+    /// An answer for each suffix, 1 or 0, and how many were asked.
+    pub fn ask(&self, root: u64, suffixes: &[u64], answers: &mut [u8]) -> u64 {
+        unsafe {
+            c::leaf_trie_ask(
+                self.arena.as_ptr(),
+                self.arena.len(),
+                self.slots,
+                self.used,
+                self.b,
+                root,
+                suffixes.as_ptr(),
+                suffixes.len(),
+                answers.as_mut_ptr(),
+                answers.len(),
+            )
+        }
+    }
+
+    pub fn count(&self, root: u64) -> u64 {
+        unsafe { c::leaf_trie_count(self.arena.as_ptr(), self.arena.len(), self.slots, self.used, self.b, root) }
+    }
+
+    /// The suffixes from the one with number `start` on, ascending, as far as there is room: how many were written.
+    pub fn walk(&self, root: u64, start: u64, out: &mut [u64]) -> u64 {
+        unsafe {
+            c::leaf_trie_walk(
+                self.arena.as_ptr(),
+                self.arena.len(),
+                self.slots,
+                self.used,
+                self.b,
+                root,
+                start,
+                out.as_mut_ptr(),
+                out.len(),
+            )
+        }
+    }
+
+    /// The same from the first suffix, the arena checked once, so many times: how many were written in all.
+    pub fn walks(&self, root: u64, times: u64, out: &mut [u64]) -> u64 {
+        unsafe {
+            c::leaf_trie_walks(
+                self.arena.as_ptr(),
+                self.arena.len(),
+                self.slots,
+                self.used,
+                self.b,
+                root,
+                times,
+                out.as_mut_ptr(),
+                out.len(),
+            )
+        }
+    }
+
+    /// A trie of 1 to 1,025 different suffixes under a container: its root, REFUSED or NO_ROOM.
+    pub fn build(&mut self, container: u64, strip: &[u64]) -> u64 {
+        let built = unsafe {
+            c::leaf_trie_build(
+                self.arena.as_mut_ptr(),
+                self.arena.len(),
+                self.slots,
+                self.used,
+                self.b,
+                container,
+                strip.as_ptr(),
+                strip.len(),
+            )
+        };
+        self.used = built.used;
+        built.root
+    }
+
+    /// The suffixes, ascending, and the trie's nodes freed: how many were written, REFUSED if there is not room for all.
+    pub fn pour(&mut self, root: u64, out: &mut [u64]) -> u64 {
+        let poured = unsafe {
+            c::leaf_trie_pour(
+                self.arena.as_mut_ptr(),
+                self.arena.len(),
+                self.slots,
+                self.used,
+                self.b,
+                root,
+                out.as_mut_ptr(),
+                out.len(),
+            )
+        };
+        self.used = poured.used;
+        poured.written
+    }
+
+    /// A trie built of the strip and poured out, the arena checked once, so many times: how many times there was room.
+    pub fn cross(&mut self, container: u64, strip: &[u64], out: &mut [u64], times: u64) -> u64 {
+        unsafe {
+            c::leaf_trie_cross(
+                self.arena.as_mut_ptr(),
+                self.arena.len(),
+                self.slots,
+                self.used,
+                self.b,
+                container,
+                strip.as_ptr(),
+                strip.len(),
+                out.as_mut_ptr(),
+                out.len(),
+                times,
+            )
+        }
     }
 
     /// The suffixes, ascending, by a reading of the words that is not the port's.

@@ -2,10 +2,9 @@
 use mathlib.Core.Path.{refl}
 use native.Mathlib.Omega.{arith}
 use denote.Ref.{now}
-use Rattle.lists.proofs.Answers.{told}
 use Rattle.region.specs.Areas.{numbers}
 use Rattle.inspect_tries.proofs.Lent.{suffix-bits}
-use Rattle.inspect.proofs.Lending.{hanging-asks, hanging-told, told-hanging}
+use Rattle.inspect.proofs.Lending.{hanging-asks, hanging-told}
 use borrow.Author.Needs.{needs}
 use Rattle.inspect.proofs.nodes_hung.Statement.{statement}
 use Rattle.inspect.proofs.nodes_hung.Tie as tie
@@ -50,7 +49,7 @@ well-formed-requires c κs =
 returns : tie.Need-returns
 returns c =
     let at = c .before .before .before .before .before .before .before .before in
-    told _ (c .well-formed .ensures) (hanging-told (now (at .args .region)) (at .pre) _ _ _ refl refl (omega arith)) (told-hanging (now (at .args .region)) (at .pre) _ _ _ refl refl (omega arith))
+    hanging-told (now (at .args .region)) (at .pre) _ _ _ refl refl (omega arith) (c .well-formed .result) (c .well-formed .ensures)
 
 pub nodes-hung-spec : {M : Type 1} → statement M
 nodes-hung-spec =

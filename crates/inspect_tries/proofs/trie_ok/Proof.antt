@@ -50,7 +50,8 @@ root-ok-requires c κs =
     let n = r .before in
     let at = n .before .before .before .before in
     let l = now (at .args .region) in
-    lent-tries l (at .pre .0) (at .pre .1 .0) (n .n .result) (n .n .ensures) (q .s .result) (q .s .ensures) (r .link .result) (omega (arith, q .before .if2 .left, n .n .ensures))
+    lent-tries l (at .pre .0) (n .n .result) (n .n .ensures) (q .s .result) (q .s .ensures) (at .pre .1 .0) (r .link .result) (omega (arith, q .before .if2 .left, n .n .ensures))
+    (at .args .roots) (at .pre .1 .1 .1 .0) (at .args .last) (at .pre .1 .1 .1 .1)
 
 returns-3 : tie.Need-returns-3
 returns-3 c =

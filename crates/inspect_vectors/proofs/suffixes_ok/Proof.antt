@@ -1,20 +1,16 @@
 -- Both tests ask of the same words. Assumes nothing.
 use mathlib.Core.Path.{_≡_, sym, ap, _∙_}
 use mathlib.Core.Bool.{false≢true}
-use Prim.Native.Nat.{ℕ, _*_, _%_, _^_, _<_}
-use native.Mathlib.Nat.{one-mul}
+use Prim.Native.Nat.{ℕ, _^_}
 use native.Mathlib.Omega.{arith}
-use lib.Pow.{shl-exact}
-use lib.Dec.{lit<, ltb}
+use lib.Dec.{ltb}
 use borrow.Author.Tests.{not-true, not-false}
 use Rattle.lists.specs.Lists.{all}
 use Rattle.lists.proofs.Answers.{refused, told}
+use Rattle.inspect_vectors.proofs.Strips.{one-up}
 use borrow.Author.Needs.{needs}
 use Rattle.inspect_vectors.proofs.suffixes_ok.Statement.{statement}
 use Rattle.inspect_vectors.proofs.suffixes_ok.Tie as tie
-
-one-up : (k : ℕ) → k < 64 → (1 * 2 ^ k) % 2 ^ 64 ≡ 2 ^ k
-one-up k h = shl-exact {a = 1} 1 k 64 (lit< tt) (omega arith) ∙ one-mul _
 
 -- what the first test says, with the power of two in place of the shifted one
 bound-is : (c : tie.After-below) → c .below .result ≡ all (λ x. ltb x (2 ^ c .before .before .args .bits)) (c .before .before .args .suffixes .now)

@@ -24,17 +24,24 @@ c-requires c κs = search needs
 loop-holds : tie.Need-loop-holds Inv-loop μ-loop
 loop-holds c = (omega arith, pass-start)
 
+firsts-ok-requires : tie.Need-firsts-ok-requires Inv-loop μ-loop
+firsts-ok-requires c κs = search needs
+
+returns : tie.Need-returns Inv-loop μ-loop
+returns c = refused (c .before .firsts-ok .ensures (not-true _ (c .if2 .taken)))
+
 kind-requires : tie.Need-kind-requires Inv-loop μ-loop
 kind-requires c κs = search needs
 
 vector-ok-requires : tie.Need-vector-ok-requires Inv-loop μ-loop
 vector-ok-requires c κs = search needs
 
-returns : tie.Need-returns Inv-loop μ-loop
-returns c =
+returns-2 : tie.Need-returns-2 Inv-loop μ-loop
+returns-2 c =
     let kind = c .before .before .before in
-    let at = kind .before .before in
-    refused (λ all. c .before .vector-ok .ensures .1 (not-true _ (c .if2 .taken)) (all (at .loop .c) (omega (arith, at .before .c .ensures, kind .before .loop-test .taken)) (sym (kind .kind .ensures) ∙ c .before .before .if1 .taken)))
+    let test = kind .before .before in
+    let at = test .before in
+    refused (λ all. c .before .vector-ok .ensures .1 (not-true _ (c .if4 .taken)) (all (at .loop .c) (omega (arith, at .before .c .ensures, test .loop-test .taken)) (sym (kind .kind .ensures) ∙ c .before .before .if3 .taken)))
 
 add-c : tie.Need-add-c Inv-loop μ-loop
 add-c c = search needs
@@ -45,13 +52,14 @@ loop-less c = search needs
 loop-again : tie.Need-loop-again Inv-loop μ-loop
 loop-again c =
     let kind = c .before in
-    let at = kind .before .before in (
-      omega (arith, kind .before .loop-test .taken),
-      pass-next (at .loop .inv .1) (λ e. ⊎-elim (λ w. w .1 .ensures .0 (not-false _ (w .2 .left))) (λ w. absurd (w .left (kind .kind .ensures ∙ e))) (c .if1 .came)),
+    let test = kind .before .before in
+    let at = test .before in (
+      omega (arith, test .loop-test .taken),
+      pass-next (at .loop .inv .1) (λ e. ⊎-elim (λ w. w .1 .ensures .0 (not-false _ (w .2 .left))) (λ w. absurd (w .left (kind .kind .ensures ∙ e))) (c .if3 .came)),
     )
 
-returns-2 : tie.Need-returns-2 Inv-loop μ-loop
-returns-2 c = granted (pass-end (omega (arith, c .before .before .c .ensures)) (c .before .loop .inv .1))
+returns-3 : tie.Need-returns-3 Inv-loop μ-loop
+returns-3 c = granted (pass-end (omega (arith, c .before .before .c .ensures)) (c .before .loop .inv .1))
 
 pub vectors-ok-spec : {M : Type 1} → statement M
 vectors-ok-spec =
@@ -61,10 +69,12 @@ vectors-ok-spec =
     μ-loop
     c-requires
     loop-holds
+    firsts-ok-requires
+    returns
     kind-requires
     vector-ok-requires
-    returns
+    returns-2
     add-c
     loop-less
     loop-again
-    returns-2)
+    returns-3)

@@ -6,6 +6,7 @@ use cbl_original::bitvector::TinyBitvector;
 use cbl_original::sliced_int::SlicedInt;
 use cbl_original::trie::Trie;
 use driver::{grouped, Numbers};
+use std::collections::BTreeSet;
 use std::ffi::c_void;
 use std::hint::black_box;
 use std::time::Instant;
@@ -41,6 +42,8 @@ fn main() {
     bitmap();
     trie::<4>("S = 28", 1 << 28);
     trie::<5>("S = 40", 1 << 40);
+    crossing::<4>("S = 28", 1 << 28);
+    crossing::<5>("S = 40", 1 << 40);
     make();
 }
 
@@ -186,64 +189,167 @@ fn rust_run<const B: usize>(trie: &mut Trie<B>, codes: &[u8], suffixes: &[u64]) 
     codes.iter().zip(suffixes).map(one).sum()
 }
 
-/// Lookup, and insert with remove. A call of the port checks its arena first: so a call does many rounds of commands, and
-/// the least time of a call with no command is taken off the least time of a call.
+/// The suffixes ascending, as the Rust's containers walk their tries.
+#[inline(never)]
+fn rust_trie_walk<const B: usize>(trie: &Trie<B>, out: &mut Vec<SlicedInt<B>>) -> u64 {
+    out.clear();
+    out.extend(trie.iter().map(|bytes: [u8; B]| SlicedInt::<B>::from_be_bytes(&bytes)));
+    out.len() as u64
+}
+
+/// A trie made of a vector and a vector made of it, word for word as `as_trie` and `as_vec` of src/trievec/mod.rs.
+#[inline(never)]
+fn rust_cross<const B: usize>(strip: &[SlicedInt<B>]) -> Vec<SlicedInt<B>> {
+    let mut trie = Trie::<B>::new();
+    for x in strip.iter() {
+        trie.insert(&x.to_be_bytes());
+    }
+    trie.iter().map(|bytes: [u8; B]| SlicedInt::from_be_bytes(&bytes)).collect()
+}
+
+/// So many different suffixes, in no order.
+fn shuffled(numbers: &mut Numbers, many: usize, even: bool, end: u64) -> Vec<u64> {
+    let mut all: Vec<u64> = match even {
+        true => (0..many as u64).map(|place| 2 * place).collect(),
+        false => {
+            let mut seen = BTreeSet::new();
+            while seen.len() < many {
+                seen.insert(numbers.below(end));
+            }
+            seen.into_iter().collect()
+        }
+    };
+    for place in (1..all.len()).rev() {
+        all.swap(place, numbers.below(place as u64 + 1) as usize);
+    }
+    all
+}
+
+/// How many nodes a trie of the suffixes has.
+fn nodes<const B: usize>(suffixes: &[u64]) -> u64 {
+    (0..B).map(|j| suffixes.iter().map(|s| s >> (8 * (B - j))).collect::<BTreeSet<u64>>().len() as u64).sum()
+}
+
+/// The least time of a call.
+fn least(rounds: usize, mut call: impl FnMut()) -> f64 {
+    let timed = |_| {
+        let start = Instant::now();
+        call();
+        start.elapsed().as_nanos() as f64
+    };
+    (0..rounds).map(timed).fold(f64::INFINITY, f64::min)
+}
+
+/// Lookups, walks, and insert with remove. A call of the port checks its arena first: so a call does many, and the least
+/// time of a call that does none is taken off the least time of a call.
 fn trie<const B: usize>(size: &str, end: u64) {
     let mut numbers = Numbers(2026);
     for (many, new) in [(2000usize, 500usize), (100000, 10000)] {
         for even in [false, true] {
-            let mut row_of: Vec<u64> = match even {
-                true => (0..(many + new) as u64).map(|place| 2 * place).collect(),
-                false => {
-                    let mut seen = std::collections::BTreeSet::new();
-                    while seen.len() < many + new {
-                        seen.insert(numbers.below(end));
-                    }
-                    seen.into_iter().collect()
-                }
-            };
-            for place in (1..row_of.len()).rev() {
-                row_of.swap(place, numbers.below(place as u64 + 1) as usize);
-            }
-            let (members, fresh) = row_of.split_at(many);
-            let nodes: u64 = (0..B)
-                .map(|j| row_of.iter().map(|s| s >> (8 * (B - j))).collect::<std::collections::BTreeSet<u64>>().len() as u64)
-                .sum();
-            let mut ours = port::Trie::new(nodes + 8, B as u64, members[0]);
+            let all = shuffled(&mut numbers, many + new, even, end);
+            let (members, fresh) = all.split_at(many);
+            let mut ours = port::Trie::new(nodes::<B>(&all) + 8, B as u64, members[0]);
             let mut answers = vec![0; many];
             assert_eq!(ours.run(&vec![1; many], members, &mut answers), many as u64);
             let mut theirs = Trie::<B>::new();
             rust_run(&mut theirs, &vec![1; many], members);
+            answers_right(&ours, members, fresh);
+
             let rounds = if many > 10000 { 5 } else { 9 };
-            let mut check = f64::INFINITY;
-            for _ in 0..2 * rounds {
-                let start = Instant::now();
-                assert_eq!(ours.run(&[], &[], &mut []), 0);
-                check = check.min(start.elapsed().as_nanos() as f64);
-            }
             let shape = if even { "even" } else { "random" };
-            let pairs: Vec<u64> = fresh.iter().chain(fresh).copied().collect();
-            let both: Vec<u8> = [vec![1; new], vec![2; new]].concat();
-            let asked = vec![0; many];
-            for (name, most, codes, words, per) in
-                [("lookup", "0.60", &asked, members, many), ("insert and remove", "1.00", &both, &pairs[..], new)]
-            {
-                let times = 800000 / words.len();
-                let (codes, words) = (codes.repeat(times), words.repeat(times));
-                let mut answers = vec![0; words.len()];
-                let (port, peer) = sides(
-                    rounds,
-                    || {
-                        assert_eq!(ours.run(&codes, &words, &mut answers), words.len() as u64);
-                        words.len() as u64
-                    },
-                    || rust_run(&mut theirs, &codes, &words),
-                );
-                assert!(answers.iter().all(|&answer| answer == 1));
-                let name = format!("trie: {}, {shape}, {size}, {name}", grouped(many));
-                row(&name, "Trie", "ns", (per * times) as f64, (port - check, peer), most);
-            }
+            let name = |what: &str| format!("trie: {}, {shape}, {size}, {what}", grouped(many));
+            let times = COMMANDS / many;
+            let asked = members.repeat(times);
+            let none = vec![0; asked.len()];
+            let mut answers = vec![0; asked.len()];
+            let check = least(2 * rounds, || assert_eq!(ours.ask(0, &[], &mut []), 0));
+            let (port, peer) = sides(rounds, || ours.ask(0, &asked, &mut answers), || rust_run(&mut theirs, &none, &asked));
+            assert!(answers.iter().all(|&answer| answer == 1));
+            row(&name("lookup"), "Trie", "ns", asked.len() as f64, (port - check, peer), "0.60");
+
+            let (mut out, mut vector) = (vec![0; many], Vec::with_capacity(many));
+            let check = least(2 * rounds, || assert_eq!(ours.walks(0, 0, &mut []), 0));
+            let (port, peer) = sides(
+                rounds,
+                || ours.walks(0, times as u64, &mut out),
+                || (0..times).map(|_| rust_trie_walk(black_box(&theirs), black_box(&mut vector))).sum(),
+            );
+            assert!(vector.iter().map(|s| s.get::<u64>()).eq(out.iter().copied()));
+            row(&name("walk"), "Trie", "ns", (many * times) as f64, (port - check, peer), "1.00");
+
+            let times = COMMANDS / (2 * new);
+            let pairs: Vec<u64> = [fresh, fresh].concat().repeat(times);
+            let both: Vec<u8> = [vec![1; new], vec![2; new]].concat().repeat(times);
+            let mut answers = vec![0; pairs.len()];
+            let check = least(2 * rounds, || assert_eq!(ours.run(&[], &[], &mut []), 0));
+            let (port, peer) =
+                sides(rounds, || ours.run(&both, &pairs, &mut answers), || rust_run(&mut theirs, &both, &pairs));
+            assert!(answers.iter().all(|&answer| answer == 1));
+            row(&name("insert and remove"), "Trie", "ns", (new * times) as f64, (port - check, peer), "1.00");
         }
+    }
+}
+
+/// The most commands of a call.
+const COMMANDS: usize = 800000;
+
+/// The port's answers against the members, which are known here without it.
+fn answers_right(ours: &port::Trie, members: &[u64], absent: &[u64]) {
+    let many = members.len();
+    let sorted: Vec<u64> = members.iter().copied().collect::<BTreeSet<u64>>().into_iter().collect();
+    assert_eq!(ours.check(), 1);
+    assert_eq!(ours.count(0), many as u64);
+    for (suffixes, answer) in [(members, 1), (absent, 0)] {
+        let mut answers = vec![2; suffixes.len()];
+        assert_eq!(ours.ask(0, suffixes, &mut answers), suffixes.len() as u64);
+        assert!(answers.iter().all(|&told| told == answer));
+    }
+    // from the middle on, with room for less than all and for more
+    for (start, room) in [(0, many), (many / 2, many / 3), (many / 2, many), (many, 1)] {
+        let mut out = vec![u64::MAX; room];
+        let written = room.min(many - start);
+        assert_eq!(ours.walk(0, start as u64, &mut out), written as u64);
+        assert_eq!(out[..written], sorted[start..start + written]);
+        assert!(out[written..].iter().all(|&word| word == u64::MAX));
+    }
+}
+
+/// A vector of 1,025 suffixes made a trie, and the trie a vector again.
+fn crossing<const B: usize>(size: &str, end: u64) {
+    let (mut numbers, many, times) = (Numbers(2026), 1025, 200);
+    for even in [false, true] {
+        let strip = shuffled(&mut numbers, many, even, end);
+        let sorted: Vec<u64> = strip.iter().copied().collect::<BTreeSet<u64>>().into_iter().collect();
+        let slots = nodes::<B>(&strip) + 8;
+        let mut ours = port::Trie::none(slots, B as u64);
+        let mut out = vec![0; many];
+
+        let root = ours.build(7, &strip);
+        assert!(root < slots);
+        assert_eq!((ours.check(), ours.used, ours.count(root)), (1, slots - 8, many as u64));
+        assert_eq!(ours.build(7, &strip), port::NO_ROOM);
+        assert_eq!(ours.pour(root, &mut out[1..]), port::REFUSED);
+        assert_eq!(ours.pour(root, &mut out), many as u64);
+        assert_eq!((ours.check(), ours.used, &out), (1, 0, &sorted));
+
+        let vector: Vec<SlicedInt<B>> = strip.iter().map(|&s| SlicedInt::from_int(s)).collect();
+        let check = least(18, || assert_eq!(ours.cross(7, &strip, &mut out, 0), 0));
+        out.fill(0);
+        let mut made = Vec::new();
+        let (port, peer) = sides(
+            9,
+            || ours.cross(7, &strip, &mut out, times),
+            || {
+                for _ in 0..times {
+                    made = rust_cross(black_box(&vector));
+                }
+                times
+            },
+        );
+        assert_eq!((ours.check(), ours.used, &out), (1, 0, &sorted));
+        assert!(made.iter().map(|s| s.get::<u64>()).eq(sorted));
+        let name = format!("trie: {}, {}, {size}, build and pour", grouped(many), if even { "even" } else { "random" });
+        row(&name, "as_trie, as_vec", "us", 1e3 * times as f64, (port - check, peer), "1.00");
     }
 }
 

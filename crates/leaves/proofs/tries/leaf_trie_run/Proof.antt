@@ -6,7 +6,7 @@ use Rattle.leaves.proofs.tries.leaf_trie_run.Tie as tie
 use Rattle.leaves.proofs.tries.leaf_trie_run.Reads as reads
 use Rattle.leaves.proofs.tries.leaf_trie_run.Lts as lts
 use Rattle.arena.proofs.read.level1.Reads as level1-reads
-use Rattle.arena_check.proofs.well_formed.Reads as well-formed-reads
+use Rattle.leaves.proofs.tries.is_arena.Reads as is-arena-reads
 use Rattle.leaves.proofs.tries.run.Reads as run-reads
 
 -- src/tries.rt:177:9
@@ -46,8 +46,8 @@ returns-7 : tie.Need-returns-7
 returns-7 c = search needs
 
 -- src/tries.rt:219:9
-well-formed-requires : tie.Need-well-formed-requires
-well-formed-requires c κs = search needs
+is-arena-requires : tie.Need-is-arena-requires
+is-arena-requires c κs = search needs
 
 -- src/tries.rt:220:9
 same-length : tie.Need-same-length
@@ -71,7 +71,7 @@ returns-9 c = search needs
 
 -- src/tries.rt:232:5
 run-requires : tie.Need-run-requires
-run-requires c κs = (record { arena = c .before .before .before .before .before .before .well-formed .ensures .0 (not-false _ (c .before .before .before .before .before .if8 .left)); root = record { in-range = c .before .before .before .before .before .before .before .before .before .before .if5 .left; level = sym (c .before .before .before .level1 .ensures) ∙ c .before .before .if9 .left } }, (search needs, (search needs, search needs)))
+run-requires c κs = (record { arena = c .before .before .before .before .before .before .is-arena .ensures (not-false _ (c .before .before .before .before .before .if8 .left)); root = record { in-range = c .before .before .before .before .before .before .before .before .before .before .if5 .left; level = sym (c .before .before .before .level1 .ensures) ∙ c .before .before .if9 .left } }, (search needs, (search needs, search needs)))
 
 -- src/tries.rt:165:1
 same-length-3 : tie.Need-same-length-3
@@ -98,7 +98,7 @@ leaf-trie-run-spec =
     returns-5
     returns-6
     returns-7
-    well-formed-requires
+    is-arena-requires
     same-length
     returns-8
     level1-requires

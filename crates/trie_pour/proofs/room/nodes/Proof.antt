@@ -1,6 +1,6 @@
 -- n nodes for the lengths below j: with no byte there is the root. Assumes nothing.
 use mathlib.Core.Path.{_≡_, sym}
-use Prim.Native.Nat.{_*_, _-_, _≤_}
+use Prim.Native.Nat.{_+_, _*_, _-_, _≤_}
 use native.Mathlib.Omega.{arith}
 use borrow.Author.Needs.{needs}
 use denote.Ref.{now}
@@ -18,6 +18,9 @@ abbrev μ-loop : tie.MeasureT-loop
 
 loop-holds : tie.Need-loop-holds Inv-loop μ-loop
 loop-holds c = let z = c .before .pre in (omega arith, z .0, sym (root-sum _ (now (c .before .args .strip)) (z .1 .1 .0) (z .1 .1 .1 .1)), omega arith)
+
+add-loop : tie.Need-add-loop Inv-loop μ-loop
+add-loop c = omega (arith, c .before .before .pre .1 .0)
 
 heads-requires : tie.Need-heads-requires Inv-loop μ-loop
 heads-requires c κs = search needs
@@ -37,10 +40,36 @@ loop-again c =
     let o = c .before .before .loop in
     (omega arith, omega arith, sum-next (leading (a .b) (now (a .strip))) (o .n) (o .j) (c .heads .result) (o .inv .2) (c .heads .ensures .0), omega (arith, c .heads .ensures .1))
 
+heads-requires-2 : tie.Need-heads-requires-2 Inv-loop μ-loop
+heads-requires-2 c κs = search needs
+
+add-n-2 : tie.Need-add-n-2 Inv-loop μ-loop
+add-n-2 c = omega (arith, c .heads2 .ensures .1)
+
 returns : tie.Need-returns Inv-loop μ-loop
-returns c = let a = c .before .before .before .args in let o = c .before .loop in nodes-sum (a .b) (o .j) (o .n) (now (a .strip)) (o .inv .2) (c .loop-test .left) (o .inv .1)
+returns c =
+    let l = c .before .before in
+    let o = l .before .loop in
+    let a = l .before .before .before .args in
+    nodes-sum (a .b) (o .j + 1) (o .n + c .heads2 .result) (now (a .strip)) (sum-next (leading (a .b) (now (a .strip))) (o .n) (o .j) (c .heads2 .result) (o .inv .2) (c .heads2 .ensures .0)) (omega (arith, l .loop-test .left)) (omega (arith, c .before .if1 .taken))
+
+returns-2 : tie.Need-returns-2 Inv-loop μ-loop
+returns-2 c = let l = c .before in let o = l .before .loop in let a = l .before .before .before .args in nodes-sum (a .b) (o .j) (o .n) (now (a .strip)) (o .inv .2) (c .if1 .left) (o .inv .1)
 
 pub nodes-spec : {M : Type 1} → statement M
 nodes-spec =
     tie.close
-    (tie.spec Inv-loop μ-loop loop-holds heads-requires add-n add-j loop-less loop-again returns)
+    (tie.spec
+    Inv-loop
+    μ-loop
+    loop-holds
+    add-loop
+    heads-requires
+    add-n
+    add-j
+    loop-less
+    loop-again
+    heads-requires-2
+    add-n-2
+    returns
+    returns-2)

@@ -1,85 +1,144 @@
--- One command a turn: what was answered so far and the commands that are left make up the whole outcome. Assumes nothing.
-use mathlib.Core.Path.{subst, _∙_}
-use Prim.Native.Nat.{_-_, _<_}
+-- One block a turn: what was answered so far and the commands that are left make up the whole outcome. Assumes nothing.
+use mathlib.Core.Path.{_≡_, sym, _∙_}
+use Prim.Native.Nat.{_+_, _-_, _≤_, _<_}
 use native.Mathlib.Omega.{arith}
-use native.Mathlib.Numerals.{add-one}
-use lib.ListN.{length, getD}
+use lib.ListN.{length}
 use borrow.Author.Needs.{needs}
-use Rattle.wordset_list.specs.declared.commands.Performed.{Performed}
-use Rattle.wordset_list.specs.Performing.{PerformedAs, Going}
-use Rattle.wordset_list.proofs.Carrying.{start, code-known, word-fits, next, stop, done}
+use borrow.Rule.Slice.PartMut.{mid-len, same-len-mid}
+use Rattle.model.specs.Commands.{knownCode}
+use Rattle.region.specs.Read.{reading}
+use Rattle.promises.specs.List.{wordOf}
+use Rattle.wordset_list.specs.Performing.{Going}
+use Rattle.wordset_list.proofs.Carrying.{start, done}
+use Rattle.wordset_list.proofs.Parts.{part-passes}
+use Rattle.wordset_list.proofs.Joining.{up-to-stop, up-to-end, words-now, block-on, block-stop}
 use Rattle.wordset_list.proofs.commands.run.Statement.{statement}
 use Rattle.wordset_list.proofs.commands.run.Tie as tie
 
 abbrev Inv-loop : tie.InvT-loop
-Inv-loop region₀ codes words answers₀ i₀ region answers i = Going region₀ codes words answers₀ i region answers
+Inv-loop region₀ codes words answers₀ hints₀ i₀ region answers hints i = Going region₀ codes words answers₀ i region answers
 
 abbrev μ-loop : tie.MeasureT-loop
-μ-loop region₀ codes words answers₀ i₀ region answers i = length words - i
+μ-loop region₀ codes words answers₀ hints₀ i₀ region answers hints i = length words - i
 
 loop-holds : tie.Need-loop-holds Inv-loop μ-loop
 loop-holds c =
     let at = c .before .before .before .before in
     start (at .args .region .now) (at .args .codes .now) (at .args .words .now) (at .args .answers .now) (at .pre .0)
 
-shared-slice-read-perform : tie.Need-shared-slice-read-perform Inv-loop μ-loop
-shared-slice-read-perform c = search needs
+end-of-requires : tie.Need-end-of-requires Inv-loop μ-loop
+end-of-requires c κs = search needs
 
-mul-perform : tie.Need-mul-perform Inv-loop μ-loop
-mul-perform c = search needs
+sub-run-block : tie.Need-sub-run-block Inv-loop μ-loop
+sub-run-block c = search needs
 
-shared-slice-read-perform-2 : tie.Need-shared-slice-read-perform-2 Inv-loop μ-loop
-shared-slice-read-perform-2 c = search needs
+part-run-block-start : tie.Need-part-run-block-start Inv-loop μ-loop
+part-run-block-start c = search needs
 
-perform-requires : tie.Need-perform-requires Inv-loop μ-loop
-perform-requires c κs =
-    let lp = c .before .before .before .before in
+part-run-block-end : tie.Need-part-run-block-end Inv-loop μ-loop
+part-run-block-end c = search needs
+
+mul-run-block : tie.Need-mul-run-block Inv-loop μ-loop
+mul-run-block c = search needs
+
+sub-run-block-2 : tie.Need-sub-run-block-2 Inv-loop μ-loop
+sub-run-block-2 c = search needs
+
+part-run-block-start-2 : tie.Need-part-run-block-start-2 Inv-loop μ-loop
+part-run-block-start-2 c = search needs
+
+part-run-block-end-2 : tie.Need-part-run-block-end-2 Inv-loop μ-loop
+part-run-block-end-2 c = search needs
+
+sub-run-block-3 : tie.Need-sub-run-block-3 Inv-loop μ-loop
+sub-run-block-3 c = search needs
+
+part-run-block-start-3 : tie.Need-part-run-block-start-3 Inv-loop μ-loop
+part-run-block-start-3 c = search needs
+
+part-run-block-end-3 : tie.Need-part-run-block-end-3 Inv-loop μ-loop
+part-run-block-end-3 c = search needs
+
+run-block-requires : tie.Need-run-block-requires Inv-loop μ-loop
+run-block-requires c κs =
+    let lp = c .before .before .before .before .before .before .before in
     let at = lp .before .before .before .before .before in
     let a = at .args in
     let g = lp .loop .inv in
-    let h : lp .loop .i < length (a .words .now) = omega arith in
-    (g .sound, (word-fits (a .region .now) (a .codes .now) (a .words .now) (a .answers .now) g (at .pre .1 .1 .1 .1) h, code-known (a .region .now) (a .codes .now) (a .words .now) (a .answers .now) (lp .loop .i) (at .pre .1 .1 .1 .0) (omega arith)))
+    let i = lp .loop .i in
+    let e = c .before .before .before .before .before .end-of .result in
+    let within = c .before .before .before .before .before .end-of .ensures in
+    let codes-long : e ≤ length (a .codes .now) = omega (arith, within .1 .0, at .pre .1 .0) in
+    let answers-long : e ≤ length (lp .loop .answers) = omega (arith, within .1 .0, at .pre .1 .1 .0, g .long) in
+    let k = mid-len i e (a .codes .now) codes-long in
+    let w = mid-len i e (a .words .now) (within .1 .0) in
+    let r = mid-len i e (lp .loop .answers) answers-long in
+    let whole : i + (e - i) ≡ e = omega (arith, within .0) in (
+      g .sound,
+      (
+        k ∙ sym w,
+        (
+          omega (arith, w, within .1 .1),
+          (
+            omega (arith, w, r),
+            (
+              part-passes knownCode (a .codes .now) i (e - i) (omega (arith, whole, codes-long)) (at .pre .1 .1 .1 .0),
+              part-passes (wordOf (reading (lp .loop .region))) (a .words .now) i (e - i) (omega (arith, whole, within .1 .0)) (words-now (a .region .now) (a .codes .now) (a .words .now) (a .answers .now) g (at .pre .1 .1 .1 .1)),
+            ),
+          ),
+        ),
+      ),
+    )
 
-enum-known-a : tie.Need-enum-known-a Inv-loop μ-loop
-enum-known-a c = search needs
+sub-if1 : tie.Need-sub-if1 Inv-loop μ-loop
+sub-if1 c = search needs
 
-slice-write-answers : tie.Need-slice-write-answers Inv-loop μ-loop
-slice-write-answers c = search needs
-
-enum-told : tie.Need-enum-told Inv-loop μ-loop
-enum-told c = search needs
+add-t26 : tie.Need-add-t26 Inv-loop μ-loop
+add-t26 c = search needs
 
 same-length : tie.Need-same-length Inv-loop μ-loop
-same-length c = c .before .before .before .before .perform .kept .0 ∙ c .before .before .before .before .before .before .before .before .before .loop .inv .size
+same-length c = c .before .before .before .before .before .run-block .kept .0 ∙ c .before .before .before .before .before .before .before .before .before .before .before .before .before .loop .inv .size
 
 same-length-2 : tie.Need-same-length-2 Inv-loop μ-loop
-same-length-2 c = c .before .before .before .before .before .before .before .before .before .loop .inv .long
+same-length-2 c =
+    let rb = c .before .before .before .before .before in
+    let lp = rb .before .before .before .before .before .before .before .before in
+    same-len-mid (lp .loop .i) (rb .before .before .before .before .before .before .end-of .result - lp .loop .i) (lp .loop .answers) (rb .run-block .last .1 .1 .1 .1 .0) (rb .run-block .kept .1 .1 .1 .1 .0) ∙ lp .loop .inv .long
 
 returns : tie.Need-returns Inv-loop μ-loop
 returns c =
-    let pf = c .before .before .before .before in
-    let lp = pf .before .before .before .before .before in
+    let rb = c .before .before .before .before .before in
+    let lp = rb .before .before .before .before .before .before .before .before in
     let at = lp .before .before .before .before .before in
     let a = at .args in
     let i = lp .loop .i in
-    stop (a .region .now) (a .codes .now) (a .words .now) (a .answers .now) (lp .loop .inv) (at .pre .1 .0) (at .pre .1 .1 .0) (omega arith)
-    (subst (λ (o : Performed). PerformedAs (getD (a .codes .now) i 0) (getD (a .words .now) i 0) (lp .loop .region) o (pf .perform .last .0)) (c .enum-told .given .1) (pf .perform .ensures))
-
-add-i : tie.Need-add-i Inv-loop μ-loop
-add-i c = search needs
+    let e = rb .before .before .before .before .before .before .end-of .result in
+    let within = rb .before .before .before .before .before .before .end-of .ensures in
+    let k = rb .run-block .result in
+    let n = mid-len i e (a .words .now) (within .1 .0) in
+    let whole : i + (e - i) ≡ e = omega (arith, within .0) in
+    let short : k < e - i = c .if1 .taken in
+    block-stop (a .region .now) (a .codes .now) (a .words .now) (a .answers .now) (lp .loop .inv) (at .pre .1 .0) (at .pre .1 .1 .0) (e - i) (omega (arith, whole, within .1 .0)) (rb .run-block .last .0) (rb .run-block .last .1 .1 .1 .1 .0) (rb .run-block .kept .0) (rb .run-block .kept .1 .1 .1 .1 .0 ∙ mid-len i e (lp .loop .answers) (omega (arith, within .1 .0, at .pre .1 .1 .0, lp .loop .inv .long)))
+    (rb .run-block .ensures) k short (up-to-stop k _ (omega (arith, n, short)))
 
 loop-less : tie.Need-loop-less Inv-loop μ-loop
 loop-less c = search needs
 
 loop-again : tie.Need-loop-again Inv-loop μ-loop
 loop-again c =
-    let pf = c .before .before .before .before .before in
-    let lp = pf .before .before .before .before .before in
+    let rb = c .before .before .before .before .before in
+    let lp = rb .before .before .before .before .before .before .before .before in
     let at = lp .before .before .before .before .before in
     let a = at .args in
     let i = lp .loop .i in
-    next (a .region .now) (a .codes .now) (a .words .now) (a .answers .now) (lp .loop .inv) (at .pre .1 .0) (at .pre .1 .1 .0) _ (add-one i) (omega arith) (pf .perform .kept .0)
-    (subst (λ (o : Performed). PerformedAs (getD (a .codes .now) i 0) (getD (a .words .now) i 0) (lp .loop .region) o (pf .perform .last .0)) (c .before .a .given .1) (pf .perform .ensures))
+    let e = rb .before .before .before .before .before .before .end-of .result in
+    let within = rb .before .before .before .before .before .before .end-of .ensures in
+    let k = rb .run-block .result in
+    let n = mid-len i e (a .words .now) (within .1 .0) in
+    let whole : i + (e - i) ≡ e = omega (arith, within .0) in
+    let none-left : e - i ≤ k = c .if1 .left in
+    block-on (a .region .now) (a .codes .now) (a .words .now) (a .answers .now) (lp .loop .inv) (at .pre .1 .0) (at .pre .1 .1 .0) (e - i) (omega (arith, whole, within .1 .0)) (rb .run-block .last .0) (rb .run-block .last .1 .1 .1 .1 .0) (rb .run-block .kept .0) (rb .run-block .kept .1 .1 .1 .1 .0 ∙ mid-len i e (lp .loop .answers) (omega (arith, within .1 .0, at .pre .1 .1 .0, lp .loop .inv .long)))
+    (rb .run-block .ensures) _ (omega (arith, whole)) (up-to-end k _ (omega (arith, n, none-left)))
 
 same-length-3 : tie.Need-same-length-3 Inv-loop μ-loop
 same-length-3 c = c .before .loop .inv .size
@@ -100,17 +159,23 @@ run-spec =
     Inv-loop
     μ-loop
     loop-holds
-    shared-slice-read-perform
-    mul-perform
-    shared-slice-read-perform-2
-    perform-requires
-    enum-known-a
-    slice-write-answers
-    enum-told
+    end-of-requires
+    sub-run-block
+    part-run-block-start
+    part-run-block-end
+    mul-run-block
+    sub-run-block-2
+    part-run-block-start-2
+    part-run-block-end-2
+    sub-run-block-3
+    part-run-block-start-3
+    part-run-block-end-3
+    run-block-requires
+    sub-if1
+    add-t26
     same-length
     same-length-2
     returns
-    add-i
     loop-less
     loop-again
     same-length-3

@@ -1,62 +1,78 @@
 -- All words are members if those from i on are. Assumes nothing.
-use mathlib.Core.Path.{_≡_, sym, _∙_}
-use Prim.Native.Nat.{_-_, _≤_, _<_}
+use mathlib.Core.Path.{_≡_, sym, ap, _∙_}
+use mathlib.Core.Bool.{true, false}
+use Prim.Native.Nat.{ℕ, _+_, _-_, _≤_, _<_}
 use native.Mathlib.Omega.{arith}
-use native.Mathlib.Numerals.{add-one}
 use lib.ListN.{length, drop}
 use borrow.Author.Needs.{needs}
 use borrow.Author.Tests.{not-true, not-false}
+use borrow.Rule.Slice.PartMut.{mid-len}
 use Rattle.lists.specs.Lists.{all}
 use Rattle.model.specs.Reading.{has}
 use Rattle.region.specs.Read.{reading}
-use Rattle.wordset_list.proofs.Judging.{all-more, all-not, all-end}
-use Rattle.wordset_list.proofs.Carrying.{word-read}
+use Rattle.promises.specs.List.{wordOf}
+use Rattle.wordset_list.proofs.Judging.{all-end}
+use Rattle.wordset_list.proofs.Parts.{part-passes, all-part}
 use Rattle.wordset_list.proofs.members.has_all.Statement.{statement}
 use Rattle.wordset_list.proofs.members.has_all.Tie as tie
 
 abbrev Inv-loop : tie.InvT-loop
-Inv-loop region words i₀ i = (i ≤ length words) × (all (has (reading region)) words ≡ all (has (reading region)) (drop i words))
+Inv-loop region words hints₀ i₀ hints i = (i ≤ length words) × (all (has (reading region)) words ≡ all (has (reading region)) (drop i words))
 
 abbrev μ-loop : tie.MeasureT-loop
-μ-loop region words i₀ i = length words - i
+μ-loop region words hints₀ i₀ hints i = length words - i
 
 loop-holds : tie.Need-loop-holds Inv-loop μ-loop
 loop-holds c = search needs
 
-mul-contains : tie.Need-mul-contains Inv-loop μ-loop
-mul-contains c = search needs
+end-of-requires : tie.Need-end-of-requires Inv-loop μ-loop
+end-of-requires c κs = search needs
 
-shared-slice-read-contains : tie.Need-shared-slice-read-contains Inv-loop μ-loop
-shared-slice-read-contains c = search needs
+mul-has-block : tie.Need-mul-has-block Inv-loop μ-loop
+mul-has-block c = search needs
 
-contains-requires : tie.Need-contains-requires Inv-loop μ-loop
-contains-requires c κs =
-    let lp = c .before .before in
+sub-has-block : tie.Need-sub-has-block Inv-loop μ-loop
+sub-has-block c = search needs
+
+part-has-block-start : tie.Need-part-has-block-start Inv-loop μ-loop
+part-has-block-start c = search needs
+
+part-has-block-end : tie.Need-part-has-block-end Inv-loop μ-loop
+part-has-block-end c = search needs
+
+has-block-requires : tie.Need-has-block-requires Inv-loop μ-loop
+has-block-requires c κs =
+    let lp = c .before .before .before .before in
     let at = lp .before .before .before in
-    let h : lp .loop .i < length (at .args .words .now) = omega arith in
-    (at .pre .0, word-read (at .args .region .now) (at .args .words .now) (lp .loop .i) (at .pre .1) h)
+    let words = at .args .words .now in
+    let i = lp .loop .i in
+    let e = c .before .before .end-of .result in
+    let within = c .before .before .end-of .ensures in
+    let n = mid-len i e words (within .1 .0) in
+    (at .pre .0, (omega (arith, n, within .1 .1), part-passes (wordOf (reading (at .args .region .now))) words i (e - i) (omega (arith, within .0, within .1 .0)) (at .pre .1)))
 
 returns : tie.Need-returns Inv-loop μ-loop
 returns c =
-    let lp = c .before .before .before .before in
-    let a = lp .before .before .before .args in
-    let t = has (reading (a .region .now)) in
+    let lp = c .before .before .before .before .before .before in
+    let at = lp .before .before .before in
+    let t = has (reading (at .args .region .now)) in
     let i = lp .loop .i in
-    sym (lp .loop .inv .1 ∙ all-not t (a .words .now) i (omega arith) (sym (c .before .contains .ensures) ∙ not-true _ (c .if1 .taken)))
-
-add-i : tie.Need-add-i Inv-loop μ-loop
-add-i c = search needs
+    let e = c .before .before .before .before .end-of .result in
+    sym (lp .loop .inv .1 ∙ all-part t (at .args .words .now) i (e - i) false (sym (c .before .has-block .ensures) ∙ not-true _ (c .if1 .taken)))
 
 loop-less : tie.Need-loop-less Inv-loop μ-loop
 loop-less c = search needs
 
 loop-again : tie.Need-loop-again Inv-loop μ-loop
 loop-again c =
-    let lp = c .before .before .before .before in
-    let a = lp .before .before .before .args in
-    let t = has (reading (a .region .now)) in
+    let lp = c .before .before .before .before .before .before in
+    let at = lp .before .before .before in
+    let t = has (reading (at .args .region .now)) in
     let i = lp .loop .i in
-    (omega arith, rw add-one (lp .loop .inv .1 ∙ all-more t (a .words .now) i (omega arith) (sym (c .before .contains .ensures) ∙ not-false _ (c .if1 .left))))
+    let e = c .before .before .before .before .end-of .result in
+    let within = c .before .before .before .before .end-of .ensures in
+    let whole : i + (e - i) ≡ e = omega (arith, within .0) in
+    (within .1 .0, lp .loop .inv .1 ∙ all-part t (at .args .words .now) i (e - i) true (sym (c .before .has-block .ensures) ∙ not-false _ (c .if1 .left)) ∙ ap (λ (k : ℕ). all t (drop k (at .args .words .now))) whole)
 
 returns-2 : tie.Need-returns-2 Inv-loop μ-loop
 returns-2 c =
@@ -71,11 +87,13 @@ has-all-spec =
     Inv-loop
     μ-loop
     loop-holds
-    mul-contains
-    shared-slice-read-contains
-    contains-requires
+    end-of-requires
+    mul-has-block
+    sub-has-block
+    part-has-block-start
+    part-has-block-end
+    has-block-requires
     returns
-    add-i
     loop-less
     loop-again
     returns-2)

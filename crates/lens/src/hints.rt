@@ -1,0 +1,140 @@
+// Guesses of slots. A rank search mostly waits for memory, and searches side by side wait together. Nothing is promised of a guess.
+ghost use Prim.Native.Nat.{_<_, _≤_};
+ghost use mathlib.Core.Path.{_≡_};
+ghost use lib.ListN.{length};
+ghost use Rattle.region.specs.Areas.{numbers};
+ghost use Rattle.region.specs.WellFormed.{WellFormed};
+use super::rank;
+use super::read;
+use std::num::wrapping_add_usize;
+
+// Rounds of looks: after as many, most prefixes that are spread evenly are met.
+const ROUNDS: usize = 5;
+
+// The rounds of whole strides. After them strides are half as long, else many a guess goes to and fro about its place.
+const WHOLE: usize = 3;
+
+// Prefixes are below this.
+const SPAN: usize = 16777216;
+
+// The place g, or the last of k.
+fn clamped(g: u64, k: usize) -> usize
+    requires { ⌜ 0 < k ⌝ }
+    ensures { λ r. ⌜ r < k ⌝ }
+{
+    if (g as usize) < k {
+        return g as usize;
+    }
+    k - 1
+}
+
+// Of how many containers a round counts its strides.
+fn pace_in(round: usize, k: usize) -> usize {
+    if round < WHOLE {
+        return k;
+    }
+    k / 2
+}
+
+// How many places p stands past q if pace prefixes are spread evenly among 2^bits. SPAN is added to the distance, so that it is never below zero.
+fn stride(q: usize, p: usize, pace: usize, bits: usize) -> usize {
+    ((SPAN + p % SPAN - q % SPAN) * (pace % 131072)) >> (bits % 64)
+}
+
+// 1 if q is below p, and 0 if not.
+fn below(q: usize, p: usize) -> usize {
+    if q < p {
+        return 1;
+    }
+    0
+}
+
+// Where to look for p after q was met at place m: a stride on, and at least one place. The stride from a prefix to itself is still.
+fn next(m: usize, q: usize, p: usize, pace: usize, bits: usize, still: usize) -> usize {
+    let far = wrapping_add_usize(stride(q, p, pace, bits), below(q, p));
+    rank::before(wrapping_add_usize(m, far), still)
+}
+
+// Whether a word's prefix is set: where none is, no guess is wanted.
+fn any_set(region: &[u64], words: &[u64]) -> bool
+    requires { ⌜ WellFormed (now region) ⌝ }
+{
+    let end = 1usize << read::p(region);
+    let shift = read::s(region);
+    let mut i: usize = 0;
+    while i < words.len() {
+        if read::bit(region, (words[i] >> shift) as usize % end) {
+            return true;
+        }
+        i += 1;
+    }
+    false
+}
+
+// Where the prefixes of words would stand if all were spread evenly.
+fn start(region: &[u64], words: &[u64], k: usize, places: &mut [u64; 16])
+    requires { ⌜ WellFormed (now region) ⌝ }
+    requires { ⌜ length (now words) ≤ 16 ⌝ }
+{
+    let bits = read::p(region);
+    let shift = read::s(region);
+    let mut i: usize = 0;
+    while i < words.len() {
+        places[i] = rank::share((words[i] >> shift) as usize, k, bits) as u64;
+        i += 1;
+    }
+}
+
+// One look for each word.
+fn look(region: &[u64], words: &[u64], k: usize, pace: usize, places: &mut [u64; 16])
+    requires { ⌜ WellFormed (now region) ⌝ }
+    requires { ⌜ length (now words) ≤ 16 ⌝ }
+    requires { ⌜ k ≡ numbers (now region) .k ⌝ }
+    requires { ⌜ 0 < k ⌝ }
+{
+    let bits = read::p(region);
+    let shift = read::s(region);
+    let still = stride(0, 0, pace, bits);
+    let mut i: usize = 0;
+    while i < words.len() {
+        let m = clamped(places[i], k);
+        let q = read::prefix(region, read::slot(region, m));
+        places[i] = next(m, q, (words[i] >> shift) as usize, pace, bits, still) as u64;
+        i += 1;
+    }
+}
+
+// The slots at the places come to.
+fn slots(region: &[u64], words: &[u64], k: usize, places: &mut [u64; 16])
+    requires { ⌜ WellFormed (now region) ⌝ }
+    requires { ⌜ length (now words) ≤ 16 ⌝ }
+    requires { ⌜ k ≡ numbers (now region) .k ⌝ }
+    requires { ⌜ 0 < k ⌝ }
+{
+    let mut i: usize = 0;
+    while i < words.len() {
+        places[i] = read::slot(region, clamped(places[i], k)) as u64;
+        i += 1;
+    }
+}
+
+// Guesses of the slots of up to 16 words' prefixes, side by side, so that the waits for memory overlap. A guess may be wrong: `find` looks.
+pub fn guess(region: &[u64], words: &[u64], hints: &mut [u64; 16])
+    requires { ⌜ WellFormed (now region) ⌝ }
+    requires { ⌜ length (now words) ≤ 16 ⌝ }
+{
+    let k = read::k(region);
+    if k <= rank::MANY {
+        return;
+    }
+    if !any_set(region, words) {
+        return;
+    }
+    start(region, words, k, hints);
+    let mut round: usize = 0;
+    while round < ROUNDS {
+        look(region, words, k, pace_in(round, k), hints);
+        round += 1;
+    }
+    slots(region, words, k, hints);
+}
