@@ -32,7 +32,8 @@ fn sides(rounds: usize, mut port: impl FnMut() -> u64, mut peer: impl FnMut() ->
 }
 
 fn row(name: &str, beside: &str, unit: &str, per: f64, (port, peer): (f64, f64), most: &str) {
-    println!("{name:<50} | {unit} | {:>9.3} | {beside:<17} | {:>9.3} | {:>5.2} | {most}", port / per, peer / per, port / peer);
+    let above = if most.parse().is_ok_and(|most: f64| port / peer > most) { ", above" } else { "" };
+    println!("{name:<50} | {unit} | {:>9.3} | {beside:<17} | {:>9.3} | {:>5.2} | {most}{above}", port / per, peer / per, port / peer);
 }
 
 fn main() {
