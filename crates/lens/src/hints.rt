@@ -17,6 +17,9 @@ const WHOLE: usize = 3;
 // Prefixes are below this.
 const SPAN: usize = 16777216;
 
+// And a scale below this: two containers for each prefix are never there.
+const FINEST: usize = 33554432;
+
 // The place g, or the last of k.
 fn clamped(g: u64, k: usize) -> usize
     requires { ⌜ 0 < k ⌝ }
@@ -36,9 +39,16 @@ fn pace_in(round: usize, k: usize) -> usize {
     k / 2
 }
 
-// How many places p stands past q if pace prefixes are spread evenly among 2^bits. SPAN is added to the distance, so that it is never below zero.
-fn stride(q: usize, p: usize, pace: usize, bits: usize) -> usize {
-    ((SPAN + p % SPAN - q % SPAN) * (pace % 131072)) >> (bits % 64)
+// Containers for each prefix, of `pace` among `width`, in parts of SPAN.
+fn scale_of(pace: usize, width: usize) -> usize
+    requires { ⌜ 0 < width ⌝ }
+{
+    (pace % 131072) * SPAN / width
+}
+
+// How many places p stands past q at a scale. SPAN is added to the distance, so that it is never below zero.
+fn stride(q: usize, p: usize, scale: usize) -> usize {
+    (SPAN + p % SPAN - q % SPAN) * (scale % FINEST) / SPAN
 }
 
 // 1 if q is below p, and 0 if not.
@@ -50,8 +60,8 @@ fn below(q: usize, p: usize) -> usize {
 }
 
 // Where to look for p after q was met at place m: a stride on, and at least one place. The stride from a prefix to itself is still.
-fn next(m: usize, q: usize, p: usize, pace: usize, bits: usize, still: usize) -> usize {
-    let far = wrapping_add_usize(stride(q, p, pace, bits), below(q, p));
+fn next(m: usize, q: usize, p: usize, scale: usize, still: usize) -> usize {
+    let far = wrapping_add_usize(stride(q, p, scale), below(q, p));
     rank::before(wrapping_add_usize(m, far), still)
 }
 
@@ -71,35 +81,57 @@ fn any_set(region: &[u64], words: &[u64]) -> bool
     false
 }
 
-// Where the prefixes of words would stand if all were spread evenly.
-fn start(region: &[u64], words: &[u64], k: usize, places: &mut [u64; 16])
+// The least prefix, and how far the greatest is from it: at least 1.
+struct Reach {
+    low: usize,
+    width: usize,
+}
+
+fn ends(region: &[u64], k: usize) -> Reach
+    requires { ⌜ WellFormed (now region) ⌝ }
+    requires { ⌜ k ≡ numbers (now region) .k ⌝ }
+    requires { ⌜ 0 < k ⌝ }
+    ensures { λ r. ⌜ 0 < r .width ⌝ }
+{
+    let low = read::prefix(region, read::slot(region, 0));
+    let high = read::prefix(region, read::slot(region, k - 1));
+    if low < high {
+        return Reach {
+            low,
+            width: high - low,
+        };
+    }
+    Reach { low, width: 1 }
+}
+
+// Where the prefixes of words would stand if all were spread evenly from the least on.
+fn start(region: &[u64], words: &[u64], low: usize, scale: usize, places: &mut [u64; 16])
     requires { ⌜ WellFormed (now region) ⌝ }
     requires { ⌜ length (now words) ≤ 16 ⌝ }
 {
-    let bits = read::p(region);
     let shift = read::s(region);
+    let still = stride(0, 0, scale);
     let mut i: usize = 0;
     while i < words.len() {
-        places[i] = rank::share((words[i] >> shift) as usize, k, bits) as u64;
+        places[i] = next(0, low, (words[i] >> shift) as usize, scale, still) as u64;
         i += 1;
     }
 }
 
 // One look for each word.
-fn look(region: &[u64], words: &[u64], k: usize, pace: usize, places: &mut [u64; 16])
+fn look(region: &[u64], words: &[u64], k: usize, scale: usize, places: &mut [u64; 16])
     requires { ⌜ WellFormed (now region) ⌝ }
     requires { ⌜ length (now words) ≤ 16 ⌝ }
     requires { ⌜ k ≡ numbers (now region) .k ⌝ }
     requires { ⌜ 0 < k ⌝ }
 {
-    let bits = read::p(region);
     let shift = read::s(region);
-    let still = stride(0, 0, pace, bits);
+    let still = stride(0, 0, scale);
     let mut i: usize = 0;
     while i < words.len() {
         let m = clamped(places[i], k);
         let q = read::prefix(region, read::slot(region, m));
-        places[i] = next(m, q, (words[i] >> shift) as usize, pace, bits, still) as u64;
+        places[i] = next(m, q, (words[i] >> shift) as usize, scale, still) as u64;
         i += 1;
     }
 }
@@ -130,10 +162,12 @@ pub fn guess(region: &[u64], words: &[u64], hints: &mut [u64; 16])
     if !any_set(region, words) {
         return;
     }
-    start(region, words, k, hints);
+    let all = ends(region, k);
+    let width = all.width;
+    start(region, words, all.low, scale_of(k, width), hints);
     let mut round: usize = 0;
     while round < ROUNDS {
-        look(region, words, k, pace_in(round, k), hints);
+        look(region, words, k, scale_of(pace_in(round, k), width), hints);
         round += 1;
     }
     slots(region, words, k, hints);

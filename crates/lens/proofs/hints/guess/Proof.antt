@@ -6,10 +6,10 @@ use Rattle.lens.proofs.hints.guess.Statement.{statement}
 use Rattle.lens.proofs.hints.guess.Tie as tie
 
 abbrev Inv-loop : tie.InvT-loop
-Inv-loop region words hints₀ k round₀ hints round = Unit {0}
+Inv-loop region words hints₀ k width round₀ hints round = Unit {0}
 
 abbrev μ-loop : tie.MeasureT-loop
-μ-loop region words hints₀ k round₀ hints round = 5 - round
+μ-loop region words hints₀ k width round₀ hints round = 5 - round
 
 k-requires : tie.Need-k-requires Inv-loop μ-loop
 k-requires c κs = search needs
@@ -23,6 +23,15 @@ any-set-requires c κs = search needs
 returns-2 : tie.Need-returns-2 Inv-loop μ-loop
 returns-2 c = search needs
 
+ends-requires : tie.Need-ends-requires Inv-loop μ-loop
+ends-requires c κs =
+    let e = c .before .before in
+    let s = e .before .before .before .before in
+    (s .pre .0, (e .before .k .ensures, omega (arith, e .if1 .left)))
+
+scale-of-requires : tie.Need-scale-of-requires Inv-loop μ-loop
+scale-of-requires c κs = c .ends .ensures
+
 start-requires : tie.Need-start-requires Inv-loop μ-loop
 start-requires c κs = search needs
 
@@ -32,9 +41,12 @@ loop-holds c = search needs
 pace-in-requires : tie.Need-pace-in-requires Inv-loop μ-loop
 pace-in-requires c κs = search needs
 
+scale-of-requires-2 : tie.Need-scale-of-requires-2 Inv-loop μ-loop
+scale-of-requires-2 c κs = c .before .before .before .before .before .before .ends .ensures
+
 look-requires : tie.Need-look-requires Inv-loop μ-loop
 look-requires c κs =
-    let e = c .before .before .before .before .before .before .before .before in
+    let e = c .before .before .before .before .before .before .before .before .before .before .before in
     let s = e .before .before .before .before in
     (s .pre .0, (s .pre .1, (e .before .k .ensures, omega (arith, e .if1 .left))))
 
@@ -49,7 +61,7 @@ loop-again c = search needs
 
 slots-requires : tie.Need-slots-requires Inv-loop μ-loop
 slots-requires c κs =
-    let e = c .before .before .before .before .before .before .before in
+    let e = c .before .before .before .before .before .before .before .before .before in
     let s = e .before .before .before .before in
     (s .pre .0, (s .pre .1, (e .before .k .ensures, omega (arith, e .if1 .left))))
 
@@ -66,9 +78,12 @@ guess-spec =
     returns
     any-set-requires
     returns-2
+    ends-requires
+    scale-of-requires
     start-requires
     loop-holds
     pace-in-requires
+    scale-of-requires-2
     look-requires
     add-round
     loop-less

@@ -8,13 +8,10 @@ use Rattle.lens.proofs.hints.look.Statement.{statement}
 use Rattle.lens.proofs.hints.look.Tie as tie
 
 abbrev Inv-loop : tie.InvT-loop
-Inv-loop region words k pace places₀ bits shift still i₀ places i = Unit {0}
+Inv-loop region words k scale places₀ shift still i₀ places i = Unit {0}
 
 abbrev μ-loop : tie.MeasureT-loop
-μ-loop region words k pace places₀ bits shift still i₀ places i = length words - i
-
-p-requires : tie.Need-p-requires Inv-loop μ-loop
-p-requires c κs = search needs
+μ-loop region words k scale places₀ shift still i₀ places i = length words - i
 
 s-requires : tie.Need-s-requires Inv-loop μ-loop
 s-requires c κs = search needs
@@ -36,13 +33,13 @@ clamped-requires c κs = search needs
 
 slot-requires : tie.Need-slot-requires Inv-loop μ-loop
 slot-requires c κs =
-    let s = c .before .before .before .before .before .before .before .before .before in
+    let s = c .before .before .before .before .before .before .before .before in
     (s .pre .0 .ready, place-small (s .pre .0) (c .clamped .result) (omega (arith, c .clamped .ensures, s .pre .1 .1 .0)))
 
 prefix-requires : tie.Need-prefix-requires Inv-loop μ-loop
 prefix-requires c κs =
     let m = c .before in
-    let s = m .before .before .before .before .before .before .before .before .before in
+    let s = m .before .before .before .before .before .before .before .before in
     (s .pre .0 .ready, rw (c .slot .ensures) (slot-small (s .pre .0) (m .clamped .result) (omega (arith, m .clamped .ensures, s .pre .1 .1 .0))))
 
 mul-next : tie.Need-mul-next Inv-loop μ-loop
@@ -54,7 +51,7 @@ shared-slice-read-next c = search needs
 shr-next : tie.Need-shr-next Inv-loop μ-loop
 shr-next c =
     let s = c .before .before .before .before .before .before .before .before in
-    omega (arith, s .s .ensures, S-small (s .before .before .before .before .pre .0))
+    omega (arith, s .s .ensures, S-small (s .before .before .before .pre .0))
 
 next-requires : tie.Need-next-requires Inv-loop μ-loop
 next-requires c κs = search needs
@@ -83,7 +80,6 @@ look-spec =
     (tie.spec
     Inv-loop
     μ-loop
-    p-requires
     s-requires
     stride-requires
     loop-holds

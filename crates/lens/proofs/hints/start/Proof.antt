@@ -8,33 +8,33 @@ use Rattle.lens.proofs.hints.start.Statement.{statement}
 use Rattle.lens.proofs.hints.start.Tie as tie
 
 abbrev Inv-loop : tie.InvT-loop
-Inv-loop region words k places₀ bits shift i₀ places i = Unit {0}
+Inv-loop region words low scale places₀ shift still i₀ places i = Unit {0}
 
 abbrev μ-loop : tie.MeasureT-loop
-μ-loop region words k places₀ bits shift i₀ places i = length words - i
-
-p-requires : tie.Need-p-requires Inv-loop μ-loop
-p-requires c κs = search needs
+μ-loop region words low scale places₀ shift still i₀ places i = length words - i
 
 s-requires : tie.Need-s-requires Inv-loop μ-loop
 s-requires c κs = search needs
 
+stride-requires : tie.Need-stride-requires Inv-loop μ-loop
+stride-requires c κs = search needs
+
 loop-holds : tie.Need-loop-holds Inv-loop μ-loop
 loop-holds c = search needs
 
-mul-share : tie.Need-mul-share Inv-loop μ-loop
-mul-share c = search needs
+mul-next : tie.Need-mul-next Inv-loop μ-loop
+mul-next c = search needs
 
-shared-slice-read-share : tie.Need-shared-slice-read-share Inv-loop μ-loop
-shared-slice-read-share c = search needs
+shared-slice-read-next : tie.Need-shared-slice-read-next Inv-loop μ-loop
+shared-slice-read-next c = search needs
 
-shr-share : tie.Need-shr-share Inv-loop μ-loop
-shr-share c =
-    let s = c .before .before .before in
-    omega (arith, s .s .ensures, S-small (s .before .before .before .before .pre .0))
+shr-next : tie.Need-shr-next Inv-loop μ-loop
+shr-next c =
+    let s = c .before .before .before .before in
+    omega (arith, s .s .ensures, S-small (s .before .before .before .pre .0))
 
-share-requires : tie.Need-share-requires Inv-loop μ-loop
-share-requires c κs = search needs
+next-requires : tie.Need-next-requires Inv-loop μ-loop
+next-requires c κs = search needs
 
 mul-places : tie.Need-mul-places Inv-loop μ-loop
 mul-places c = search needs
@@ -60,13 +60,13 @@ start-spec =
     (tie.spec
     Inv-loop
     μ-loop
-    p-requires
     s-requires
+    stride-requires
     loop-holds
-    mul-share
-    shared-slice-read-share
-    shr-share
-    share-requires
+    mul-next
+    shared-slice-read-next
+    shr-next
+    next-requires
     mul-places
     element-write-places
     add-i
