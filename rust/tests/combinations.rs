@@ -92,6 +92,22 @@ fn tries_and_vectors() {
     }
 }
 
+/// Vectors of one prefix that pass 1,024 together, with so many words in both that the union is just below the threshold, at it, or a trie.
+#[test]
+fn vectors_about_the_threshold() {
+    let (mut random, s) = (Numbers64(9), 20);
+    let row = |from: u64, many: u64| -> Vec<u64> { (from..from + many).map(|i| (5 << s) + i * 37 % (1 << s)).collect() };
+    for (left, right, common) in
+        [(600, 600, 177), (600, 600, 176), (600, 600, 175), (1024, 1024, 1024), (1024, 1, 1), (1024, 1, 0), (1000, 24, 0), (1000, 25, 0), (1, 1023, 0), (1, 1024, 0)]
+    {
+        let numbers = Numbers { p: 3, s, containers: 2, nodes: 0 };
+        let a = filled(numbers, &row(0, left));
+        let b = filled(numbers, &row(left - common, right));
+        all_four(&a, &b, &mut random);
+        all_four(&b, &a, &mut random);
+    }
+}
+
 #[test]
 fn sets_that_differ_and_what_comes_first() {
     let of = |p, s| region(Numbers { p, s, containers: 2, nodes: 1 });

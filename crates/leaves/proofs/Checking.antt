@@ -36,21 +36,21 @@ part-narrow b a e ss n h i l =
     let z : i < e - a = subst (λ (q : ℕ). i < q) (mid-len a e ss h) l in
     subst (λ (q : ℕ). q < 2 ^ (8 * b)) (sym (part-at a e i ss h l)) (n (a + i) (omega arith))
 
-pub part-roots : (v : Nodes) (N n e : ℕ) → Root v N n → e ≤ 16 → (i : ℕ) → i < length (midOf 0 (e - 0) (replicate 16 n)) → Root v N (getD (midOf 0 (e - 0) (replicate 16 n)) i 0)
+pub part-roots : (v : Nodes) (N n e : ℕ) → Root v N n → e ≤ 64 → (i : ℕ) → i < length (midOf 0 (e - 0) (replicate 64 n)) → Root v N (getD (midOf 0 (e - 0) (replicate 64 n)) i 0)
 part-roots v N n e r h i l =
-    let long : length (replicate 16 n) ≡ 16 = length-replicate 16 n in
-    let z : i < e - 0 = subst (λ (q : ℕ). i < q) (mid-len 0 e (replicate 16 n) (omega arith)) l in
-    let at : 0 + i < 16 = omega arith in
-    subst (Root v N) (sym (part-at 0 e i (replicate 16 n) (omega arith) l ∙ getD-replicate 16 (0 + i) n 0 at)) r
+    let long : length (replicate 64 n) ≡ 64 = length-replicate 64 n in
+    let z : i < e - 0 = subst (λ (q : ℕ). i < q) (mid-len 0 e (replicate 64 n) (omega arith)) l in
+    let at : 0 + i < 64 = omega arith in
+    subst (Root v N) (sym (part-at 0 e i (replicate 64 n) (omega arith) l ∙ getD-replicate 64 (0 + i) n 0 at)) r
 
 pub no-more : (n n′ room : ℕ) → n ≡ n′ → n ≤ room → n′ ≤ room
 no-more n n′ room e h = subst (λ (q : ℕ). q ≤ room) e h
 
-pub roots-long : (n e : ℕ) → e ≤ 16 → length (midOf 0 (e - 0) (replicate 16 n)) ≡ e
+pub roots-long : (n e : ℕ) → e ≤ 64 → length (midOf 0 (e - 0) (replicate 64 n)) ≡ e
 roots-long n e h =
-    let long : length (replicate 16 n) ≡ 16 = length-replicate 16 n in
+    let long : length (replicate 64 n) ≡ 64 = length-replicate 64 n in
     let z : e - 0 ≡ e = omega arith in
-    mid-len 0 e (replicate 16 n) (omega arith) ∙ z
+    mid-len 0 e (replicate 64 n) (omega arith) ∙ z
 
 back : (used left t used′ : ℕ) → left ≡ used + t → used′ + t ≡ left → used′ ≡ used
 back used left t used′ h g = omega arith

@@ -108,17 +108,17 @@ pub extern "C" fn leaf_arena_check(arena: &[u64], slots: u64, used: u64, b: u64)
     number(is_arena(arena, slots as usize, used as usize, b as usize)) as u64
 }
 
-fn at_most_16(n: usize) -> usize
+fn at_most_64(n: usize) -> usize
     requires { ⌜ 1 ≤ n ⌝ }
-    ensures { λ r. ⌜ (1 ≤ r) × (r ≤ n) × (r ≤ 16) ⌝ }
+    ensures { λ r. ⌜ (1 ≤ r) × (r ≤ n) × (r ≤ 64) ⌝ }
 {
-    if n > 16 {
-        return 16;
+    if n > 64 {
+        return 64;
     }
     n
 }
 
-// The suffixes, 16 at a time.
+// The suffixes, 64 at a time.
 fn ask(
     arena: &[u64],
     slots: usize,
@@ -133,10 +133,10 @@ fn ask(
     requires { ⌜ Narrow b (now suffixes) ⌝ }
     requires { ⌜ length (now answers) ≡ length (now suffixes) ⌝ }
 {
-    let roots = [root as u64; 16];
+    let roots = [root as u64; 64];
     let mut i: usize = 0;
     while i < suffixes.len() {
-        let n = at_most_16(suffixes.len() - i);
+        let n = at_most_64(suffixes.len() - i);
         contains_each(
             arena,
             slots,

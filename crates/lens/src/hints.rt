@@ -1,9 +1,11 @@
-// Guesses of slots. A rank search mostly waits for memory, and searches side by side wait together. Nothing is promised of a guess.
+// Guesses of slots. A rank search mostly waits for memory, and searches side by side wait together. Nothing is promised of a guess, but where no prefix is set that is told.
 ghost use Prim.Native.Nat.{_<_, _≤_};
 ghost use mathlib.Core.Path.{_≡_};
+ghost use mathlib.Core.Bool.{false};
 ghost use lib.ListN.{length};
 ghost use Rattle.region.specs.Areas.{numbers};
 ghost use Rattle.region.specs.WellFormed.{WellFormed};
+ghost use Rattle.lens.specs.Found.{NoneSet};
 use super::rank;
 use super::read;
 use std::num::wrapping_add_usize;
@@ -68,6 +70,7 @@ fn next(m: usize, q: usize, p: usize, scale: usize, still: usize) -> usize {
 // Whether a word's prefix is set: where none is, no guess is wanted.
 fn any_set(region: &[u64], words: &[u64]) -> bool
     requires { ⌜ WellFormed (now region) ⌝ }
+    ensures { λ r. ⌜ (r ≡ false → NoneSet (now (region .entry)) (now (words .entry)) (length (now (words .entry)))) ⌝ }
 {
     let end = 1usize << read::p(region);
     let shift = read::s(region);
@@ -105,9 +108,9 @@ fn ends(region: &[u64], k: usize) -> Reach
 }
 
 // Where the prefixes of words would stand if all were spread evenly from the least on.
-fn start(region: &[u64], words: &[u64], low: usize, scale: usize, places: &mut [u64; 16])
+fn start(region: &[u64], words: &[u64], low: usize, scale: usize, places: &mut [u64; 64])
     requires { ⌜ WellFormed (now region) ⌝ }
-    requires { ⌜ length (now words) ≤ 16 ⌝ }
+    requires { ⌜ length (now words) ≤ 64 ⌝ }
 {
     let shift = read::s(region);
     let still = stride(0, 0, scale);
@@ -119,9 +122,9 @@ fn start(region: &[u64], words: &[u64], low: usize, scale: usize, places: &mut [
 }
 
 // One look for each word.
-fn look(region: &[u64], words: &[u64], k: usize, scale: usize, places: &mut [u64; 16])
+fn look(region: &[u64], words: &[u64], k: usize, scale: usize, places: &mut [u64; 64])
     requires { ⌜ WellFormed (now region) ⌝ }
-    requires { ⌜ length (now words) ≤ 16 ⌝ }
+    requires { ⌜ length (now words) ≤ 64 ⌝ }
     requires { ⌜ k ≡ numbers (now region) .k ⌝ }
     requires { ⌜ 0 < k ⌝ }
 {
@@ -136,31 +139,34 @@ fn look(region: &[u64], words: &[u64], k: usize, scale: usize, places: &mut [u64
     }
 }
 
-// The slots at the places come to.
-fn slots(region: &[u64], words: &[u64], k: usize, places: &mut [u64; 16])
+// The slots at the places come to, with a look at the first entry of each: entries lie far apart, and side by side the looks wait together. An entry is below 2^40, so the guess stays the slot.
+fn slots(region: &[u64], words: &[u64], k: usize, places: &mut [u64; 64])
     requires { ⌜ WellFormed (now region) ⌝ }
-    requires { ⌜ length (now words) ≤ 16 ⌝ }
+    requires { ⌜ length (now words) ≤ 64 ⌝ }
     requires { ⌜ k ≡ numbers (now region) .k ⌝ }
     requires { ⌜ 0 < k ⌝ }
 {
     let mut i: usize = 0;
     while i < words.len() {
-        places[i] = read::slot(region, clamped(places[i], k)) as u64;
+        let c = read::slot(region, clamped(places[i], k));
+        let first = read::entry(region, c, 0);
+        places[i] = wrapping_add_usize(c, (first >> 40) as usize) as u64;
         i += 1;
     }
 }
 
-// Guesses of the slots of up to 16 words' prefixes, side by side, so that the waits for memory overlap. A guess may be wrong: `find` looks.
-pub fn guess(region: &[u64], words: &[u64], hints: &mut [u64; 16])
+// Guesses of the slots of up to 64 words' prefixes, side by side, so that the waits for memory overlap. A guess may be wrong: `find` looks. No: no word's prefix is set.
+pub fn guess(region: &[u64], words: &[u64], hints: &mut [u64; 64]) -> bool
     requires { ⌜ WellFormed (now region) ⌝ }
-    requires { ⌜ length (now words) ≤ 16 ⌝ }
+    requires { ⌜ length (now words) ≤ 64 ⌝ }
+    ensures { λ r. ⌜ (r ≡ false → NoneSet (now (region .entry)) (now (words .entry)) (length (now (words .entry)))) ⌝ }
 {
     let k = read::k(region);
     if k <= rank::MANY {
-        return;
+        return true;
     }
     if !any_set(region, words) {
-        return;
+        return false;
     }
     let all = ends(region, k);
     let width = all.width;
@@ -171,4 +177,5 @@ pub fn guess(region: &[u64], words: &[u64], hints: &mut [u64; 16])
         round += 1;
     }
     slots(region, words, k, hints);
+    true
 }

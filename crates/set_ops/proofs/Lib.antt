@@ -14,5 +14,6 @@ pub mod Promise
 pub mod TakeSlots
 pub mod TakeLooks
 pub mod TakeRest
+pub mod TakeVector
 pub mod TakeWhole
 pub mod TakeBlocks

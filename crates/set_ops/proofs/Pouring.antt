@@ -109,13 +109,14 @@ pub none-poured : {l : List ℕ} → WellFormed l → Ended (pouring [] l) l l
 unfolding run
 none-poured wf = record { went-on = refl; reads = record { well-formed = wf; reads = refl; past-stays = refl } }
 
-abbrev one : ℕ → Command
-one w = record { code = Code.Insert; word = w }
+-- the command that inserts a word
+abbrev pub one-word : ℕ → Command
+one-word w = record { code = Code.Insert; word = w }
 
 -- a word that was inserted
 pub one-poured : {l m : List ℕ} {b : Bool} (w : ℕ) → Did Code.Insert w l b m → Ended (pouring (w ∷ []) l) l m
 one-poured {l} {m} w d =
-    let e : pouring (w ∷ []) l ≡ goes-on (one w) (reading l) (run [] (changed Code.Insert w (reading l))) = run-on (one w) [] (reading l) (d .room) in
+    let e : pouring (w ∷ []) l ≡ goes-on (one-word w) (reading l) (run [] (changed Code.Insert w (reading l))) = run-on (one-word w) [] (reading l) (d .room) in
     record {
       went-on = ap (λ (o : Run). o .stopped) e ∙ unfold run in refl;
       reads = subst (λ (o : Run). ReadsAs l (o .reading) m) (sym e) (unfold run in d .reads);
@@ -124,7 +125,7 @@ one-poured {l} {m} w d =
 -- a word that found no room
 pub one-halted : {l m : List ℕ} (w : ℕ) → WellFormed l → Full w l m → Halted (pouring (w ∷ []) l) l m
 one-halted {l} {m} w wf f = record {
-  stopped = ap (λ (o : Run). o .stopped) (run-stop (one w) [] (reading l) (f .no-room));
+  stopped = ap (λ (o : Run). o .stopped) (run-stop (one-word w) [] (reading l) (f .no-room));
   framed = subst (Framed l) (sym (f .stays)) record { well-formed = wf; kept = record { P = refl; S = refl; C = refl; N = refl }; past-stays = refl };
 }
 

@@ -36,7 +36,7 @@ front-is n xs ys e = let z : n - 0 ≡ n = omega arith in ap (λ (m : ℕ). take
 pub record Asking (t : ℕ → Bool) (p : ℕ) (ss l₀ l kept : List ℕ) (known : Bool) (c i : ℕ) : Type 0 where
   pub taking : Taking t (numbers l₀ .S) p ss l₀ l i
   pub bears : known ≡ true → Bears (numbers l) (seen (numbers l) l) p c
-  pub long : length kept ≡ 16
+  pub long : length kept ≡ 64
 
 module _ {l₀ o : List ℕ} (wf : WellFormed l₀) (wo : WellFormed o) (al : Alike o l₀) (p : ℕ) (hp : p < 2 ^ numbers l₀ .P) (ss : List ℕ) (hs : AllSmall (numbers l₀ .S) ss) (common own : Bool) where
   abbrev S : ℕ
@@ -66,7 +66,7 @@ module _ {l₀ o : List ℕ} (wf : WellFormed l₀) (wo : WellFormed o) (al : Al
   -- It is asked
 
   -- at first none is taken over
-  pub ask-start : (kept : List ℕ) (c : ℕ) → length kept ≡ 16 → Asking t p ss l₀ l₀ kept false c 0
+  pub ask-start : (kept : List ℕ) (c : ℕ) → length kept ≡ 64 → Asking t p ss l₀ l₀ kept false c 0
   ask-start kept c k = record { taking = take-start t S p ss l₀ wf; bears = λ e. absurd (false≢true e); long = k }
 
   module _ (l kept : List ℕ) (known : Bool) (c i : ℕ) (at : Asking t p ss l₀ l kept known c i) where
@@ -92,8 +92,8 @@ module _ {l₀ o : List ℕ} (wf : WellFormed l₀) (wo : WellFormed o) (al : Al
       part-small = front-small S (drop i ss) (e - i) (behind-small S ss i hs)
 
       -- what asking about a block asks
-      pub block-asks : e ≤ i + 16
-          → WellFormed o × ((d < numbers o .C) × ((seen (numbers o) o .kind d ≢ 0) × (AllSmall (numbers o .S) (take (e - i) (drop i ss)) × ((length (take (e - i) (drop i ss)) ≤ 16) × (length kept ≡ 16)))))
+      pub block-asks : e ≤ i + 64
+          → WellFormed o × ((d < numbers o .C) × ((seen (numbers o) o .kind d ≢ 0) × (AllSmall (numbers o .S) (take (e - i) (drop i ss)) × ((length (take (e - i) (drop i ss)) ≤ 64) × (length kept ≡ 64)))))
       block-asks short = (wo, (there .in-range, (there .in-use, (subst (λ (z : ℕ). AllSmall z (take (e - i) (drop i ss))) (sym (al .S)) part-small, (omega (arith, length-take (e - i) (drop i ss)), at .long)))))
 
       module _ (rs : List ℕ) (er : rs ≡ keep (picks o d common own) (take (e - i) (drop i ss))) where

@@ -81,26 +81,26 @@ flag-next xs ss fs₀ fs i room at h b eb f ef = record { upto = omega arith; lo
     pick j l (no n) = getD-set-other fs i j f 0 n ∙ at .says j (omega (arith, n))
 
 module _ (l : List ℕ) (wf : WellFormed l) (d : ℕ) (h : d < numbers l .C) (k : seen (numbers l) l .kind d ≡ 2) (n b r : ℕ) (en : n ≡ numbers l .N) (eb : b ≡ bytesOf (numbers l .S)) (er : r ≡ seen (numbers l) l .link d)
-    (ss : List ℕ) (hs : AllSmall (numbers l .S) ss) (few : length ss ≤ 16) where
+    (ss : List ℕ) (hs : AllSmall (numbers l .S) ss) (few : length ss ≤ 64) where
   -- as many roots as suffixes, all the same
   abbrev rs : List ℕ
-  rs = take (length ss - 0) (replicate 16 r)
+  rs = take (length ss - 0) (replicate 64 r)
 
   whole : length ss - 0 ≡ length ss
   whole = omega arith
 
   long : length rs ≡ length ss
-  long = ap (λ (z : ℕ). length (take z (replicate 16 r))) whole ∙ length-take-le (length ss) (replicate 16 r) few
+  long = ap (λ (z : ℕ). length (take z (replicate 64 r))) whole ∙ length-take-le (length ss) (replicate 64 r) few
 
   same : (i : ℕ) → i < length ss → getD rs i 0 ≡ r
-  same i u = ap (λ (z : ℕ). getD (take z (replicate 16 r)) i 0) whole ∙ getD-take (length ss) (replicate 16 r) i 0 u ∙ getD-replicate 16 i r 0 (omega arith)
+  same i u = ap (λ (z : ℕ). getD (take z (replicate 64 r)) i 0) whole ∙ getD-take (length ss) (replicate 64 r) i 0 u ∙ getD-replicate 64 i r 0 (omega arith)
 
   root : Root (nodesIn n (arenaPart l wf)) n r
   root = trie-ready l wf d h k n b r en eb er 0 (pow-pos (numbers l .S)) .1 .0
 
   -- what asking a trie asks
   pub trie-asks : {X : Type 0} → X
-      → Tries n b (arenaPart l wf) × ((1 ≤ b) × ((b ≤ 5) × ((length ss ≤ 16) × ((length rs ≡ length ss) × (X × (((i : ℕ) → i < length rs → getD rs i 0 < n → Root (nodesIn n (arenaPart l wf)) n (getD rs i 0)) × ((i : ℕ) → i < length ss → getD ss i 0 < 2 ^ (8 * b))))))))
+      → Tries n b (arenaPart l wf) × ((1 ≤ b) × ((b ≤ 5) × ((length ss ≤ 64) × ((length rs ≡ length ss) × (X × (((i : ℕ) → i < length rs → getD rs i 0 < n → Root (nodesIn n (arenaPart l wf)) n (getD rs i 0)) × ((i : ℕ) → i < length ss → getD ss i 0 < 2 ^ (8 * b))))))))
   trie-asks x =
       let q = trie-ready l wf d h k n b r en eb er 0 (pow-pos (numbers l .S)) in
       (q .0, (q .1 .1 .0, (q .1 .1 .1 .0, (few, (long, (x, ((λ i u v. subst (Root (nodesIn n (arenaPart l wf)) n) (sym (same i (omega (arith, long)))) root), λ i u. trie-ready l wf d h k n b r en eb er (getD ss i 0) (hs i u) .1 .1 .1 .1)))))))
@@ -152,7 +152,7 @@ keep-next u ss kept₀ kept n i room at h k = go (u (getD ss i 0)) refl
         subst (λ (m : ℕ). Keeping u ss kept₀ (set kept n (getD ss i 0)) m (i + 1)) y (on n (omega (arith, at .few)) (take-set-le n kept n (getD ss i 0) (omega arith) ∙ at .written ∙ sym (append-nil (keep u (take i ss))) ∙ sym (more u ss i h false e)))
 
 -- at the last suffix the block is done
-pub keep-end : (u : ℕ → Bool) (ss kept₀ kept : List ℕ) (n i : ℕ) → length ss ≤ 16 → Keeping u ss kept₀ kept n i → length ss ≤ i → (n ≤ 16) × (take n kept ≡ keep u ss)
+pub keep-end : (u : ℕ → Bool) (ss kept₀ kept : List ℕ) (n i : ℕ) → length ss ≤ 64 → Keeping u ss kept₀ kept n i → length ss ≤ i → (n ≤ 64) × (take n kept ≡ keep u ss)
 keep-end u ss kept₀ kept n i few at h = (omega (arith, at .few, at .upto), at .written ∙ ap (keep u) (take-all i ss h))
 
 -- Suffixes and words

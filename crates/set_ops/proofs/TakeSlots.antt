@@ -9,8 +9,8 @@ use Rattle.lists.specs.Lists.{mem}
 use Rattle.lists.proofs.Laws.{by-test, eqb-self, mem-put}
 use Rattle.model.specs.Words.{prefixOf, suffixOf}
 use Rattle.model.specs.Reading.{Container, Reading, has, prefixesOf, under}
-use Rattle.model.specs.Change.{added, insert, placed, slotOf, top}
-use Rattle.model.specs.Commands.{Code, Command, Run, hasRoom, run}
+use Rattle.model.specs.Change.{added, insert, placed, slotOf, top, with}
+use Rattle.model.specs.Commands.{Code, Run, hasRoom, run}
 use Rattle.model.specs.Good.{Good}
 use Rattle.model.proofs.ContainerLaws.{prefixes-placed, under-none}
 use Rattle.model.proofs.Runs.{run-on, run-stop}
@@ -22,6 +22,7 @@ use Rattle.region.specs.WellFormed.{Bears, Ranked, rankOf, WellFormed}
 use Rattle.region.proofs.SeenBits.{seen-bits}
 use Rattle.steps.proofs.Places.{clear-unknown, placed-renewed, renewed, set-known, slot-set}
 use Rattle.set_ops.specs.Poured.{Ended, pouring}
+use Rattle.set_ops.proofs.Pouring.{one-word}
 
 -- On readings
 
@@ -39,6 +40,17 @@ slot-renewed p ss (c ∷ cs) = go (eqb p (c .prefix)) refl (slot-renewed p ss cs
     go true e ih = rw (e, eqb-self p)
     go false e ih = rw (e, e) ih
 
+-- a prefix under which suffixes are placed is known
+pub known-placed : (p t : ℕ) (ss : List ℕ) (cs : List Container) → mem p (prefixesOf (placed p t ss cs)) ≡ true
+known-placed p t ss cs = ap (mem p) (prefixes-placed p t ss cs) ∙ mem-put p p (prefixesOf cs) ∙ ap (λ (b : Bool). b || mem p (prefixesOf cs)) (eqb-self p)
+
+-- and keeps the slot that it had
+slot-placed : (r : Reading) → Good r → (p c : ℕ) → Stands r p c → (t : ℕ) (ss : List ℕ) → slotOf p (placed p t ss (r .containers)) ≡ c
+slot-placed r g p c h t ss = ap (slotOf p) (placed-renewed p t ss (r .containers) (g .ascending) (h .known)) ∙ slot-renewed p ss (r .containers) ∙ h .slot
+
+pub placed-stands : (r : Reading) → Good r → (p c : ℕ) → Stands r p c → (t : ℕ) (ss : List ℕ) → Stands (with r (placed p t ss (r .containers)) (r .free)) p c
+placed-stands r g p c h t ss = record { known = known-placed p t ss (r .containers); slot = slot-placed r g p c h t ss }
+
 module _ (r : Reading) (g : Good r) (w : ℕ) (l : w < 2 ^ (r .P + r .S)) where
   abbrev q : ℕ
   q = prefixOf (r .S) w
@@ -54,10 +66,7 @@ module _ (r : Reading) (g : Good r) (w : ℕ) (l : w < 2 ^ (r .P + r .S)) where
       member e = rw (insert-old r g w l e) (by-test (mem q (prefixesOf (r .containers))) (λ k. k) (λ k. absurd (true≢false (sym e ∙ has-is r g w ∙ ap (mem (suffixOf (r .S) w)) (under-none q (r .containers) k)))))
 
       new : has r w ≡ false → mem q (prefixesOf (insert w r .containers)) ≡ true
-      new e =
-          ap (λ (x : Reading). mem q (prefixesOf (x .containers))) (insert-new r g w l e)
-          ∙ ap (mem q) (prefixes-placed q (top (r .free)) ss (r .containers)) ∙ mem-put q q (prefixesOf (r .containers))
-          ∙ ap (λ (b : Bool). b || mem q (prefixesOf (r .containers))) (eqb-self q)
+      new e = ap (λ (x : Reading). mem q (prefixesOf (x .containers))) (insert-new r g w l e) ∙ known-placed q (top (r .free)) ss (r .containers)
 
   -- and keeps the slot that it had
   pub insert-stands : (c : ℕ) → Stands r q c → Stands (insert w r) q c
@@ -67,10 +76,7 @@ module _ (r : Reading) (g : Good r) (w : ℕ) (l : w < 2 ^ (r .P + r .S)) where
       member e = ap (λ (x : Reading). slotOf q (x .containers)) (insert-old r g w l e) ∙ h .slot
 
       new : has r w ≡ false → slotOf q (insert w r .containers) ≡ c
-      new e =
-          ap (λ (x : Reading). slotOf q (x .containers)) (insert-new r g w l e)
-          ∙ ap (slotOf q) (placed-renewed q (top (r .free)) ss (r .containers) (g .ascending) (h .known))
-          ∙ slot-renewed q ss (r .containers) ∙ h .slot
+      new e = ap (λ (x : Reading). slotOf q (x .containers)) (insert-new r g w l e) ∙ slot-placed r g q c h (top (r .free)) ss
 
 -- On regions
 
@@ -109,11 +115,8 @@ module _ {l : List ℕ} (wf : WellFormed l) (p : ℕ) where
 
 -- One word poured
 
-abbrev one : ℕ → Command
-one w = record { code = Code.Insert; word = w }
-
 -- a word that was poured was inserted
 pub poured-reads : {l m : List ℕ} (w : ℕ) → Ended (pouring (w ∷ []) l) l m → reading m ≡ insert w (reading l)
 poured-reads {l} {m} w h = by-test (hasRoom Code.Insert w (reading l))
-    (λ e. h .reads .reads ∙ ap (λ (o : Run). o .reading) (run-on (one w) [] (reading l) e) ∙ unfold run in refl)
-    (λ e. absurd (true≢false (sym (ap (λ (o : Run). o .stopped) (run-stop (one w) [] (reading l) e)) ∙ h .went-on)))
+    (λ e. h .reads .reads ∙ ap (λ (o : Run). o .reading) (run-on (one-word w) [] (reading l) e) ∙ unfold run in refl)
+    (λ e. absurd (true≢false (sym (ap (λ (o : Run). o .stopped) (run-stop (one-word w) [] (reading l) e)) ∙ h .went-on)))

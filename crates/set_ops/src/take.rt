@@ -1,4 +1,4 @@
-// Takes words over from one set into another, as far as there is room. All words of a call share one prefix: its slot is found once in each set. The other set is asked about up to 16 suffixes side by side.
+// Takes words over from one set into another, as far as there is room. All words of a call share one prefix: its slot is found once in each set. The other set is asked about up to 64 suffixes side by side.
 ghost use mathlib.Core.Path.{_≡_};
 ghost use mathlib.Core.Logic.{_≢_};
 ghost use mathlib.Core.Bool.{true, false, cond};
@@ -16,13 +16,15 @@ ghost use Rattle.set_ops.specs.Poured.{Alike, AllSmall, PouredAs, wanted
 use lens::rank;
 use lens::read;
 use strip::search::contains;
+use strip::trievec::TrieVec;
 use trie_look::contains_each;
 use wordset_insert::insert;
 use wordset_insert::insert_at;
 use wordset_trie::Outcome;
+use wordset_vector::push_all;
 
 // Suffixes that the other set is asked about at a time.
-const BLOCK: usize = 16;
+const BLOCK: usize = 64;
 
 // The word of a prefix and a suffix.
 fn joined(p: usize, s: u64, bits: usize) -> u64
@@ -88,7 +90,7 @@ fn in_trie_each(other: &[u64], d: usize, suffixes: &[u64], flags: &mut [u8])
     requires { ⌜ d < numbers (now other) .C ⌝ }
     requires { ⌜ seen (numbers (now other)) (now other) .kind d ≡ 2 ⌝ }
     requires { ⌜ AllSmall (numbers (now other) .S) (now suffixes) ⌝ }
-    requires { ⌜ length (now suffixes) ≤ 16 ⌝ }
+    requires { ⌜ length (now suffixes) ≤ 64 ⌝ }
     requires { ⌜ length (now suffixes) ≤ length (now flags) ⌝ }
     ensures { λ _. ⌜ ((i : ℕ) → i < length (now (suffixes .entry)) → getD (now (flags .exit)) i 0 ≡ cond (mem (getD (now (suffixes .entry)) i 0) (suffixesOf (numbers (now (other .entry))) (seen (numbers (now (other .entry))) (now (other .entry))) d)) 1 0) ⌝ }
 {
@@ -113,7 +115,7 @@ fn held_each(other: &[u64], d: usize, suffixes: &[u64], flags: &mut [u8])
     requires { ⌜ d < numbers (now other) .C ⌝ }
     requires { ⌜ seen (numbers (now other)) (now other) .kind d ≢ 0 ⌝ }
     requires { ⌜ AllSmall (numbers (now other) .S) (now suffixes) ⌝ }
-    requires { ⌜ length (now suffixes) ≤ 16 ⌝ }
+    requires { ⌜ length (now suffixes) ≤ 64 ⌝ }
     requires { ⌜ length (now suffixes) ≤ length (now flags) ⌝ }
     ensures { λ _. ⌜ ((i : ℕ) → i < length (now (suffixes .entry)) → getD (now (flags .exit)) i 0 ≡ cond (mem (getD (now (suffixes .entry)) i 0) (suffixesOf (numbers (now (other .entry))) (seen (numbers (now (other .entry))) (now (other .entry))) d)) 1 0) ⌝ }
 {
@@ -149,9 +151,9 @@ fn keep_block(
     requires { ⌜ d < numbers (now other) .C ⌝ }
     requires { ⌜ seen (numbers (now other)) (now other) .kind d ≢ 0 ⌝ }
     requires { ⌜ AllSmall (numbers (now other) .S) (now block) ⌝ }
-    requires { ⌜ length (now block) ≤ 16 ⌝ }
-    requires { ⌜ length (now kept) ≡ 16 ⌝ }
-    ensures number { λ r. ⌜ r ≤ 16 ⌝ }
+    requires { ⌜ length (now block) ≤ 64 ⌝ }
+    requires { ⌜ length (now kept) ≡ 64 ⌝ }
+    ensures number { λ r. ⌜ r ≤ 64 ⌝ }
     ensures written { λ r. ⌜ take r (now (kept .exit)) ≡ keep (λ s. cond (mem s (suffixesOf (numbers (now (other .entry))) (seen (numbers (now (other .entry))) (now (other .entry))) d)) common own) (now (block .entry)) ⌝ }
 {
     let mut flags: [u8; BLOCK] = [0; BLOCK];
@@ -195,8 +197,8 @@ fn put_at(dest: &mut [u64], c: usize, s: u64) -> bool
     }
 }
 
-// Inserts the words of slot c's prefix and some suffixes, in order: the slot stays the prefix's.
-fn put_all(dest: &mut [u64], c: usize, suffixes: &[u64]) -> bool
+// Inserts the words of slot c's prefix and some suffixes, in order, one by one: the slot stays the prefix's.
+fn put_each(dest: &mut [u64], c: usize, suffixes: &[u64]) -> bool
     requires { ⌜ WellFormed (now dest) ⌝ }
     requires { ⌜ c < numbers (now dest) .C ⌝ }
     requires { ⌜ seen (numbers (now dest)) (now dest) .kind c ≢ 0 ⌝ }
@@ -212,6 +214,24 @@ fn put_all(dest: &mut [u64], c: usize, suffixes: &[u64]) -> bool
         i += 1;
     }
     true
+}
+
+// Inserts the words of slot c's prefix and some suffixes, in order: the slot stays the prefix's. A vector with room for all takes them at once.
+fn put_all(dest: &mut [u64], c: usize, suffixes: &[u64]) -> bool
+    requires { ⌜ WellFormed (now dest) ⌝ }
+    requires { ⌜ c < numbers (now dest) .C ⌝ }
+    requires { ⌜ seen (numbers (now dest)) (now dest) .kind c ≢ 0 ⌝ }
+    requires { ⌜ AllSmall (numbers (now dest) .S) (now suffixes) ⌝ }
+    ensures poured { λ r. ⌜ PouredAs (map (joinedWord (numbers (now (dest .entry)) .S) (seen (numbers (now (dest .entry))) (now (dest .entry)) .prefix c)) (now (suffixes .entry))) (now (dest .entry)) r (now (dest .exit)) ⌝ }
+    ensures stays { λ r. ⌜ (r ≡ true → Bears (numbers (now (dest .exit))) (seen (numbers (now (dest .exit))) (now (dest .exit))) (seen (numbers (now (dest .entry))) (now (dest .entry)) .prefix c) c) ⌝ }
+{
+    if read::kind(dest, c) == 1 {
+        if read::size(dest, c) + suffixes.len() <= TrieVec::THRESHOLD {
+            push_all(dest, c, suffixes);
+            return true;
+        }
+    }
+    put_each(dest, c, suffixes)
 }
 
 // Whether there was room; and the slot of the prefix, once a word of it was taken over.
@@ -264,7 +284,7 @@ fn block_end(i: usize, len: usize) -> usize
     requires { ⌜ i < len ⌝ }
     ensures on { λ r. ⌜ i < r ⌝ }
     ensures inside { λ r. ⌜ r ≤ len ⌝ }
-    ensures short { λ r. ⌜ r ≤ i + 16 ⌝ }
+    ensures short { λ r. ⌜ r ≤ i + 64 ⌝ }
 {
     if len - i < BLOCK {
         return len;

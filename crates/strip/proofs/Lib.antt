@@ -1,7 +1,9 @@
 pub mod MemberLaws
 pub mod PlaceLaws
+pub mod RiseLaws
 pub mod FindLaws
 pub mod MarkLaws
 pub mod CountLaws
 pub mod BoundLaws
 pub mod StoreLaws
+pub mod GatherLaws

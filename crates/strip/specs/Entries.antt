@@ -1,6 +1,6 @@
 -- What a search of entries finds, and what a change of a strip leaves. Assumes nothing.
 use mathlib.Core.Path.{_≡_}
-use mathlib.Core.Bool.{true, false}
+use mathlib.Core.Bool.{true, false, cond}
 use mathlib.Core.List.{List, [], _∷_, _++_}
 use Prim.Native.Nat.{ℕ, suc, _+_, _-_, _≤_, _<_}
 use lib.ListN.{length, getD, take, drop}
@@ -43,3 +43,19 @@ pub record Removed (before : List ℕ) (n i : ℕ) (after : List ℕ) : Type 0 w
   pub long : length after ≡ length before
   pub gone : take (n - 1) after ≡ swapOut (getD before i 0) (take n before)
   pub rest : drop (n - 1) after ≡ drop (n - 1) before
+
+-- a suffix put behind others, unless it stands among them
+abbrev pub behind : ℕ → List ℕ → List ℕ
+behind s xs = cond (mem s xs) xs (xs ++ (s ∷ []))
+
+-- suffixes put behind others one after the other, each unless it stands there by then
+abbrev pub gathered : List ℕ → List ℕ → List ℕ
+gathered xs [] = xs
+gathered xs (s ∷ ss) = gathered (behind s xs) ss
+
+-- the suffixes ss gathered behind the first n entries, r entries then
+pub record Gathered (before : List ℕ) (n : ℕ) (ss : List ℕ) (r : ℕ) (after : List ℕ) : Type 0 where
+  pub long : length after ≡ length before
+  pub more : n ≤ r
+  pub few : r ≤ n + length ss
+  pub front : take r after ≡ gathered (take n before) ss

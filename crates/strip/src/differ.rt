@@ -6,9 +6,13 @@ ghost use lib.ListN.{length, take};
 ghost use Rattle.lists.specs.Lists.{mem, different, Ascending, Distinct};
 ghost use Rattle.strip.specs.Marks.{near, far, marked, Marks, Marking};
 use super::search;
+use std::num::wrapping_sub_u64;
 
 // Below this many entries the search of each is quicker than clearing the marks.
 const FEW: usize = 32;
+
+// From this many entries on a pass without branches is quicker, where they ascend.
+const MANY: usize = 64;
 
 // The place of an entry's first mark.
 fn near_of(x: u64) -> usize
@@ -90,8 +94,8 @@ fn distinct_searched(entries: &[u64]) -> bool
     true
 }
 
-// Whether entries ascend strictly.
-pub fn rising(entries: &[u64]) -> bool
+// Entry by entry, up to the first that does not rise.
+fn rising_each(entries: &[u64]) -> bool
     ensures yes { λ r. ⌜ (r ≡ true → Ascending (now (entries .entry))) ⌝ }
     ensures no { λ r. ⌜ (r ≡ false → Ascending (now (entries .entry)) → ⊥) ⌝ }
 {
@@ -103,6 +107,41 @@ pub fn rising(entries: &[u64]) -> bool
         i += 1;
     }
     true
+}
+
+// Without a branch for each, so that the compiler takes two to a register. A step up by at most 2^48 leaves the upper 16 bits of the wrapped difference set; 2^15 such steps from below 2^63 do not reach 2^64, so none went round. A suffix has at most 40 bits.
+fn rising_gently(entries: &[u64]) -> bool
+    requires { ⌜ 0 < length (now entries) ⌝ }
+    ensures { λ r. ⌜ (r ≡ true → Ascending (now (entries .entry))) ⌝ }
+{
+    if entries.len() > 32768 {
+        return false;
+    }
+    if entries[0] >> 63 != 0 {
+        return false;
+    }
+    let mut common: u64 = u64::MAX;
+    let mut i: usize = 1;
+    while i < entries.len() {
+        common = common & wrapping_sub_u64(entries[i - 1], entries[i]);
+        i += 1;
+    }
+    common >> 48 == 65535
+}
+
+// Whether entries ascend strictly. Many are taken together, but not where the first few show already that they are in no order.
+pub fn rising(entries: &[u64]) -> bool
+    ensures yes { λ r. ⌜ (r ≡ true → Ascending (now (entries .entry))) ⌝ }
+    ensures no { λ r. ⌜ (r ≡ false → Ascending (now (entries .entry)) → ⊥) ⌝ }
+{
+    if entries.len() >= MANY {
+        if rising_each(&entries[0..8]) {
+            if rising_gently(entries) {
+                return true;
+            }
+        }
+    }
+    rising_each(entries)
 }
 
 // Entries that ascend are told at once: those of a vector that was a trie, or was filled in order.

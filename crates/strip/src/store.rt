@@ -2,10 +2,11 @@
 ghost use mathlib.Core.Path.{_≡_};
 ghost use mathlib.Core.Bool.{false};
 ghost use mathlib.Core.List.{[], _∷_, _++_};
-ghost use Prim.Native.Nat.{suc, _≤_, _<_};
+ghost use Prim.Native.Nat.{suc, _+_, _≤_, _<_};
 ghost use lib.ListN.{length, getD, take, drop};
 ghost use Rattle.lists.specs.Lists.{mem};
-ghost use Rattle.strip.specs.Entries.{Appended, Removed};
+ghost use Rattle.strip.specs.Entries.{Appended, Gathered, Removed};
+use super::search::contains;
 
 // Puts s behind the first len entries.
 pub fn append(strip: &mut [u64], len: usize, s: u64)
@@ -44,4 +45,22 @@ pub fn copy_out(strip: &[u64], len: usize, s: u64, out: &mut [u64])
 {
     copy_in(out, &strip[0..len]);
     append(out, len, s);
+}
+
+// Puts each of some suffixes behind the first len entries, unless it stands among them by then: how many there are.
+pub fn gather(strip: &mut [u64], len: usize, suffixes: &[u64]) -> usize
+    requires { ⌜ len + length (now suffixes) ≤ length (now strip) ⌝ }
+    ensures { λ r. ⌜ Gathered (now (strip .entry)) len (now (suffixes .entry)) r (now (strip .exit)) ⌝ }
+{
+    let mut n = len;
+    let mut i: usize = 0;
+    while i < suffixes.len() {
+        let s = suffixes[i];
+        if !contains(&strip[0..n], s) {
+            strip[n] = s;
+            n += 1;
+        }
+        i += 1;
+    }
+    n
 }

@@ -10,7 +10,7 @@ use arena::read;
 use sliced_int::byte;
 
 // The most lookups side by side.
-const MOST: usize = 16;
+const MOST: usize = 64;
 
 // The child of n for byte j of the suffix, or `slots` for none.
 fn step(arena: &[u64], slots: usize, b: usize, suffix: u64, j: usize, n: u64) -> u64
@@ -117,7 +117,7 @@ fn start(roots: &[u64], nodes: &mut [u64])
     }
 }
 
-// Whether tries hold suffixes, up to 16 side by side: nodes lie far apart, and so the waits for memory overlap. A place whose root is none (slots or more) keeps its answer.
+// Whether tries hold suffixes, up to 64 side by side: nodes lie far apart, and so the waits for memory overlap. A place whose root is none (slots or more) keeps its answer.
 pub fn contains_each(
     arena: &[u64],
     slots: usize,
@@ -129,7 +129,7 @@ pub fn contains_each(
     requires { ⌜ Tries slots b (now arena) ⌝ }
     requires { ⌜ 1 ≤ b ⌝ }
     requires { ⌜ b ≤ 5 ⌝ }
-    requires { ⌜ length (now suffixes) ≤ 16 ⌝ }
+    requires { ⌜ length (now suffixes) ≤ 64 ⌝ }
     requires { ⌜ length (now roots) ≡ length (now suffixes) ⌝ }
     requires { ⌜ length (now suffixes) ≤ length (now answers) ⌝ }
     requires { ⌜ ((i : ℕ) → i < length (now roots) → getD (now roots) i 0 < slots → Root (nodesIn slots (now arena)) slots (getD (now roots) i 0)) ⌝ }

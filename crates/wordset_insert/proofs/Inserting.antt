@@ -55,7 +55,7 @@ unfolding containerNodes
 nodes-many b ss h = rw (lt-ltb threshold (length ss) h)
 
 -- and of one of fewer none
-nodes-few : (b : ℕ) (ss : List ℕ) → length ss ≤ threshold → containerNodes b ss ≡ 0
+pub nodes-few : (b : ℕ) (ss : List ℕ) → length ss ≤ threshold → containerNodes b ss ≡ 0
 unfolding containerNodes
 nodes-few b ss h = rw (le-ltb threshold (length ss) h)
 

@@ -70,12 +70,12 @@ fn run_each(
     region: &mut [u64],
     codes: &[u8],
     words: &[u64],
-    hints: &[u64; 16],
+    hints: &[u64; 64],
     answers: &mut [u8],
 ) -> usize
     requires { ⌜ WellFormed (now region) ⌝ }
     requires { ⌜ length (now codes) ≡ length (now words) ⌝ }
-    requires { ⌜ length (now words) ≤ 16 ⌝ }
+    requires { ⌜ length (now words) ≤ 64 ⌝ }
     requires { ⌜ length (now words) ≤ length (now answers) ⌝ }
     requires { ⌜ length (now codes) ≤ firstBad knownCode (now codes) ⌝ }
     requires { ⌜ length (now words) ≤ firstBad (wordOf (reading (now region))) (now words) ⌝ }
@@ -96,27 +96,27 @@ fn run_each(
     i
 }
 
-// Runs a block: its slots are guessed side by side, and lookups alone are answered side by side, since they change nothing.
+// Runs a block: lookups alone are answered side by side, since they change nothing; else its slots are guessed side by side.
 fn run_block(
     region: &mut [u64],
     codes: &[u8],
     words: &[u64],
-    hints: &mut [u64; 16],
+    hints: &mut [u64; 64],
     answers: &mut [u8],
 ) -> usize
     requires { ⌜ WellFormed (now region) ⌝ }
     requires { ⌜ length (now codes) ≡ length (now words) ⌝ }
-    requires { ⌜ length (now words) ≤ 16 ⌝ }
+    requires { ⌜ length (now words) ≤ 64 ⌝ }
     requires { ⌜ length (now words) ≤ length (now answers) ⌝ }
     requires { ⌜ length (now codes) ≤ firstBad knownCode (now codes) ⌝ }
     requires { ⌜ length (now words) ≤ firstBad (wordOf (reading (now region))) (now words) ⌝ }
     ensures { λ r. ⌜ RanAs (now (region .entry)) (now (codes .entry)) (now (words .entry)) (now (answers .entry)) (upTo r (length (now (words .entry)))) (now (region .exit)) (now (answers .exit)) ⌝ }
 {
-    guess(region, words, hints);
     if all_lookups(codes) {
         contains_each(region, words, hints, answers);
         return words.len();
     }
+    let _ = guess(region, words, hints);
     run_each(region, codes, words, hints, answers)
 }
 
@@ -129,7 +129,7 @@ pub fn run(region: &mut [u64], codes: &[u8], words: &[u64], answers: &mut [u8]) 
     requires { ⌜ length (now words) ≤ firstBad (wordOf (reading (now region))) (now words) ⌝ }
     ensures { λ r. ⌜ RanAs (now (region .entry)) (now (codes .entry)) (now (words .entry)) (now (answers .entry)) (listed r) (now (region .exit)) (now (answers .exit)) ⌝ }
 {
-    let mut hints: [u64; 16] = [0; 16];
+    let mut hints: [u64; 64] = [0; 64];
     let mut i: usize = 0;
     while i < words.len() {
         let end = end_of(i, words.len());

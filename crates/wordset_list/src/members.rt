@@ -9,7 +9,6 @@ ghost use Rattle.region.specs.WellFormed.{WellFormed};
 ghost use Rattle.promises.specs.List.{wordOf};
 ghost use Rattle.wordset_list.specs.Performing.{isYes};
 use crate::blocks::end_of;
-use lens::hints::guess;
 use wordset_lookup::each::contains_each;
 
 // Whether no answer is 0.
@@ -27,14 +26,13 @@ fn all_yes(answers: &[u8]) -> bool
 }
 
 // Whether all words of a block are members.
-fn has_block(region: &[u64], words: &[u64], hints: &mut [u64; 16]) -> bool
+fn has_block(region: &[u64], words: &[u64], hints: &mut [u64; 64]) -> bool
     requires { ⌜ WellFormed (now region) ⌝ }
-    requires { ⌜ length (now words) ≤ 16 ⌝ }
+    requires { ⌜ length (now words) ≤ 64 ⌝ }
     requires { ⌜ length (now words) ≤ firstBad (wordOf (reading (now region))) (now words) ⌝ }
     ensures { λ r. ⌜ r ≡ all (has (reading (now (region .entry)))) (now (words .entry)) ⌝ }
 {
-    guess(region, words, hints);
-    let mut answers: [u8; 16] = [0; 16];
+    let mut answers: [u8; 64] = [0; 64];
     contains_each(region, words, hints, &mut answers);
     all_yes(&answers[..words.len()])
 }
@@ -44,7 +42,7 @@ pub fn has_all(region: &[u64], words: &[u64]) -> bool
     requires { ⌜ length (now words) ≤ firstBad (wordOf (reading (now region))) (now words) ⌝ }
     ensures { λ r. ⌜ r ≡ all (has (reading (now (region .entry)))) (now (words .entry)) ⌝ }
 {
-    let mut hints: [u64; 16] = [0; 16];
+    let mut hints: [u64; 64] = [0; 64];
     let mut i: usize = 0;
     while i < words.len() {
         let end = end_of(i, words.len());

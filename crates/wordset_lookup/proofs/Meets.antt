@@ -4,14 +4,15 @@ use mathlib.Core.Path.{_≡_, refl, sym, ap, _∙_, subst}
 use native.Mathlib.Decide.{ℕ-discrete}
 use mathlib.Core.Bool.{Bool, false, cond, _||_}
 use mathlib.Core.List.{List}
+use native.Mathlib.Nat.{mod-eq-of-lt}
 use native.Mathlib.Omega.{arith}
-use lib.Dec.{ltb}
+use lib.Dec.{eqb, ltb}
 use lib.ListN.{length, take, drop, getD, set, length-set}
 use lib.Seq.{length-take-le, getD-set-same, getD-set-other, getD-take, drop-set-lt, drop-drop}
 use borrow.Author.Tests.{le-ltb, lt-ltb, ltb-false}
 use Rattle.lists.specs.Lists.{mem}
 use Rattle.lists.proofs.Laws.{or-none}
-use Rattle.model.specs.Words.{suffixOf, bytesOf}
+use Rattle.model.specs.Words.{prefixOf, suffixOf, bytesOf}
 use Rattle.model.specs.Reading.{has}
 use Rattle.model.proofs.ContainerLaws.{suffix-lt}
 use Rattle.region.specs.Areas.{Numbers, numbers}
@@ -21,8 +22,10 @@ use Rattle.region.specs.WellFormed.{WellFormed}
 use Rattle.region.specs.Tries.{members}
 use Rattle.arena.specs.Arena.{nodesIn, Root}
 use Rattle.trie_look.specs.Each.{answerAt}
+use Rattle.trie_look.specs.Levels.{Changed}
+use Rattle.lens.specs.Found.{NoneSet}
 use Rattle.wordset_lookup.specs.Meeting.{Settles, Met}
-use Rattle.wordset_lookup.proofs.Looks.{arenaPart, members-are, root-of, suffixes-trie}
+use Rattle.wordset_lookup.proofs.Looks.{prefix-small, arenaPart, members-are, root-of, suffixes-trie, clear-answer}
 
 module _ (l : List ℕ) where
   abbrev g : Numbers
@@ -50,6 +53,15 @@ module _ (l : List ℕ) where
           says = rw (lt-ltb r (g .N) (t .in-range)) (ap (λ (z : List ℕ). cond (mem s z) 1 0) (suffixes-trie l wf c h k r er));
         }
 
+    -- where no word's prefix is set, no word is a member: zeros are the answers
+    pub none-said : (words : List ℕ) → ((i : ℕ) → i < length words → getD words i 0 < 2 ^ (g .P + g .S)) → NoneSet l words (length words) → (answers exit : List ℕ) → Changed (λ _ _. 0) (length words) answers exit
+        → (i : ℕ) → i < length words → getD exit i 0 ≡ cond (has (reading l) (getD words i 0)) 1 0
+    none-said words small none answers exit c i h =
+        let w = getD words i 0 in
+        let p = prefixOf (g .S) w in
+        let clear : v .bit p ≡ 0 = ap (v .bit) (sym (mod-eq-of-lt (prefix-small (g .P) (g .S) w (small i h)))) ∙ none i h in
+        c .front i h ∙ ap (λ (z : Bool). cond z 1 0) (clear-answer l wf w (small i h) (g .S) refl p refl false (sym (ap (λ (z : ℕ). eqb z 1) clear)) refl)
+
     -- the search of the lent part says what the region does
     pub asked : (n b : ℕ) (en : n ≡ g .N) (eb : b ≡ bytesOf (g .S)) (r s old : ℕ) → answerAt (nodesIn n (arenaPart l wf)) n b r s old ≡ answerAt (v .node) (g .N) (bytesOf (g .S)) r s old
     asked n b en eb r s old =
@@ -63,12 +75,12 @@ module _ (l : List ℕ) where
       subst (λ (z : ℕ). Settles l z found′ root′ answer′) (sym es) (subst (λ (z : Bool). Settles l s z root′ answer′) ef (subst (λ (z : ℕ). Settles l s found z answer′) (sym er) (subst (Settles l s found root) (sym ea) t)))
 
   module _ (words answers₀ : List ℕ) where
-    pub start : (roots suffixes : List ℕ) → length roots ≡ 16 → length suffixes ≡ 16 → Met l words answers₀ 0 roots suffixes answers₀ false
+    pub start : (roots suffixes : List ℕ) → length roots ≡ 64 → length suffixes ≡ 64 → Met l words answers₀ 0 roots suffixes answers₀ false
     start roots suffixes hr hs =
         record { inside = omega arith; wide-roots = hr; wide-suffixes = hs; long = refl; later = refl; suffix = λ j h. absurd (omega arith); settled = λ j h. absurd (omega arith); stands = λ _ j h. absurd (omega arith) }
 
     pub next : (i : ℕ) (left : Bool) (roots suffixes answers : List ℕ) → Met l words answers₀ i roots suffixes answers left → i < length words
-        → length words ≤ 16 → length words ≤ length answers₀ → (n : ℕ) → n ≡ g .N → (i′ : ℕ) → i′ ≡ i + 1 → (s : ℕ) → s ≡ suffixOf (g .S) (getD words i 0)
+        → length words ≤ 64 → length words ≤ length answers₀ → (n : ℕ) → n ≡ g .N → (i′ : ℕ) → i′ ≡ i + 1 → (s : ℕ) → s ≡ suffixOf (g .S) (getD words i 0)
         → (root answer : ℕ) → Settles l (suffixOf (g .S) (getD words i 0)) (has (reading l) (getD words i 0)) root answer
         → Met l words answers₀ i′ (set roots i root) (set suffixes i s) (set answers i answer) (left || ltb root n)
     next i left roots suffixes answers m h few fit n en i′ ei s es root answer t =
@@ -110,9 +122,9 @@ module _ (l : List ℕ) where
 
     -- All words met: the tries say the rest
 
-    module _ (few : length words ≤ 16) (k : ℕ) (ek : k ≡ length words) (roots suffixes answers : List ℕ) (left : Bool) (m : Met l words answers₀ (length words) roots suffixes answers left) where
+    module _ (few : length words ≤ 64) (k : ℕ) (ek : k ≡ length words) (roots suffixes answers : List ℕ) (left : Bool) (m : Met l words answers₀ (length words) roots suffixes answers left) where
       -- as many roots and suffixes as words
-      pub part-long : (xs : List ℕ) → length xs ≡ 16 → length (take k xs) ≡ length words
+      pub part-long : (xs : List ℕ) → length xs ≡ 64 → length (take k xs) ≡ length words
       part-long xs e = length-take-le k xs (omega arith) ∙ ek
 
       at-root : (i : ℕ) → i < length words → getD (take k roots) i 0 ≡ getD roots i 0

@@ -20,8 +20,8 @@ pub record Settles (l : List ℕ) (s : ℕ) (found : Bool) (root answer : ℕ) :
 -- the first i words were met: where their answers are to be had, and if no trie is left to ask, the answers stand
 pub record Met (l words answers : List ℕ) (i : ℕ) (roots suffixes answers′ : List ℕ) (left : Bool) : Type 0 where
   pub inside : i ≤ length words
-  pub wide-roots : length roots ≡ 16
-  pub wide-suffixes : length suffixes ≡ 16
+  pub wide-roots : length roots ≡ 64
+  pub wide-suffixes : length suffixes ≡ 64
   pub long : length answers′ ≡ length answers
   pub later : drop i answers′ ≡ drop i answers
   pub suffix : (j : ℕ) → j < i → getD suffixes j 0 ≡ suffixOf (numbers l .S) (getD words j 0)

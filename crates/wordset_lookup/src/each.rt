@@ -1,4 +1,4 @@
-// Whether a region holds words, up to 16 side by side: vectors at once, then the tries together, so that the waits for memory overlap.
+// Whether a region holds words, up to 64 side by side: vectors at once, then the tries together, so that the waits for memory overlap. Where no prefix is set nothing is looked at.
 ghost use mathlib.Core.Path.{_≡_};
 ghost use mathlib.Core.Logic.{_≢_};
 ghost use mathlib.Core.Bool.{cond};
@@ -13,12 +13,14 @@ ghost use Rattle.region.specs.Read.{suffixes, reading};
 ghost use Rattle.region.specs.WellFormed.{WellFormed};
 ghost use Rattle.arena.specs.Arena.{Root};
 ghost use Rattle.trie_look.specs.Each.{answerAt};
+ghost use Rattle.trie_look.specs.Levels.{Changed};
 ghost use Rattle.wordset_lookup.specs.Meeting.{Settles, Met};
 use super::in_vector;
 use super::prefix_of;
 use super::suffix_of;
 use lens::find::Place;
 use lens::find::find;
+use lens::hints::guess;
 use lens::read;
 
 // Where a word's answer is to be had: from the trie with the root, or, if that is no node, it is the answer here.
@@ -74,16 +76,16 @@ fn meet(region: &[u64], slots: usize, bits: usize, w: u64, hint: usize) -> Lead
 fn meet_each(
     region: &[u64],
     words: &[u64],
-    hints: &[u64; 16],
+    hints: &[u64; 64],
     roots: &mut [u64],
     suffixes: &mut [u64],
     answers: &mut [u8],
 ) -> bool
     requires { ⌜ WellFormed (now region) ⌝ }
-    requires { ⌜ length (now words) ≤ 16 ⌝ }
+    requires { ⌜ length (now words) ≤ 64 ⌝ }
     requires { ⌜ length (now words) ≤ length (now answers) ⌝ }
-    requires { ⌜ length (now roots) ≡ 16 ⌝ }
-    requires { ⌜ length (now suffixes) ≡ 16 ⌝ }
+    requires { ⌜ length (now roots) ≡ 64 ⌝ }
+    requires { ⌜ length (now suffixes) ≡ 64 ⌝ }
     requires { ⌜ ((i : ℕ) → i < length (now words) → getD (now words) i 0 < 2 ^ (numbers (now region) .P + numbers (now region) .S)) ⌝ }
     ensures { λ r. ⌜ Met (now (region .entry)) (now (words .entry)) (now (answers .entry)) (length (now (words .entry))) (now (roots .exit)) (now (suffixes .exit)) (now (answers .exit)) r ⌝ }
 {
@@ -106,7 +108,7 @@ fn meet_each(
 // Asks the tries together: node stack and nodes are lent as one part.
 fn ask(region: &[u64], roots: &[u64], suffixes: &[u64], answers: &mut [u8])
     requires { ⌜ WellFormed (now region) ⌝ }
-    requires { ⌜ length (now suffixes) ≤ 16 ⌝ }
+    requires { ⌜ length (now suffixes) ≤ 64 ⌝ }
     requires { ⌜ length (now roots) ≡ length (now suffixes) ⌝ }
     requires { ⌜ length (now suffixes) ≤ length (now answers) ⌝ }
     requires { ⌜ ((i : ℕ) → i < length (now roots) → getD (now roots) i 0 < numbers (now region) .N → Root (seen (numbers (now region)) (now region) .node) (numbers (now region) .N) (getD (now roots) i 0)) ⌝ }
@@ -129,10 +131,22 @@ fn ask(region: &[u64], roots: &[u64], suffixes: &[u64], answers: &mut [u8])
     );
 }
 
-// Whether the words are members: 1 or 0 each. The hints may be any numbers.
-pub fn contains_each(region: &[u64], words: &[u64], hints: &[u64; 16], answers: &mut [u8])
+// Answers no to the first n words.
+fn none_each(n: usize, answers: &mut [u8])
+    requires { ⌜ n ≤ length (now answers) ⌝ }
+    ensures { λ _. ⌜ Changed (λ _ _. 0) n (now (answers .entry)) (now (answers .exit)) ⌝ }
+{
+    let mut i: usize = 0;
+    while i < n {
+        answers[i] = 0;
+        i += 1;
+    }
+}
+
+// Whether the words are members: 1 or 0 each. The hints may be any numbers, and are guessed anew.
+pub fn contains_each(region: &[u64], words: &[u64], hints: &mut [u64; 64], answers: &mut [u8])
     requires { ⌜ WellFormed (now region) ⌝ }
-    requires { ⌜ length (now words) ≤ 16 ⌝ }
+    requires { ⌜ length (now words) ≤ 64 ⌝ }
     requires { ⌜ length (now words) ≤ length (now answers) ⌝ }
     requires { ⌜ ((i : ℕ) → i < length (now words) → getD (now words) i 0 < 2 ^ (numbers (now region) .P + numbers (now region) .S)) ⌝ }
     ensures each { λ _. ⌜ ((i : ℕ) → i < length (now (words .entry)) → getD (now (answers .exit)) i 0 ≡ cond (has (reading (now (region .entry))) (getD (now (words .entry)) i 0)) 1 0) ⌝ }
@@ -140,8 +154,12 @@ pub fn contains_each(region: &[u64], words: &[u64], hints: &[u64; 16], answers: 
     ensures later { λ _. ⌜ drop (length (now (words .entry))) (now (answers .exit)) ≡ drop (length (now (words .entry))) (now (answers .entry)) ⌝ }
 {
     let n = words.len();
-    let mut roots: [u64; 16] = [0; 16];
-    let mut suffixes: [u64; 16] = [0; 16];
+    if !guess(region, words, hints) {
+        none_each(n, answers);
+        return;
+    }
+    let mut roots: [u64; 64] = [0; 64];
+    let mut suffixes: [u64; 64] = [0; 64];
     if meet_each(region, words, hints, &mut roots, &mut suffixes, answers) {
         ask(region, &roots[0..n], &suffixes[0..n], answers);
     }

@@ -13,6 +13,7 @@ use Rattle.lists.proofs.Laws.{not-true-false}
 use Rattle.lists.proofs.Each.{Place, length-upTo, take-upTo}
 use Rattle.lists.proofs.Same.{upTo-same}
 use Rattle.model.specs.Room.{threshold}
+use Rattle.model.specs.Reading.{under}
 use Rattle.model.specs.Change.{placed, swapOut, taken, with}
 use Rattle.model.specs.Good.{GoodSuffixes}
 use Rattle.model.proofs.ContainerLaws.{each-under}
@@ -30,7 +31,8 @@ use Rattle.lens.specs.Parts.{partsOf, seenIn, withEntries}
 use Rattle.lens.specs.Holding.{Holding}
 use Rattle.lens.proofs.Only.{area-length}
 use Rattle.lens.proofs.Holding.{begin, sized, well-formed, reads-as, lent-strip, give-strip}
-use Rattle.strip.specs.Entries.{Appended, Removed}
+use Rattle.strip.specs.Entries.{Appended, Gathered, Removed, gathered}
+use Rattle.strip.proofs.GatherLaws.{good-gathered}
 use Rattle.strip.proofs.PlaceLaws.{place-before}
 use Rattle.steps.specs.Steps.{counted, Refilled}
 use Rattle.steps.proofs.Places.{under-set}
@@ -83,14 +85,19 @@ module _ (l : List ℕ) (wf : WellFormed l) (c : ℕ) (h : c < numbers l .C) whe
     unfolding suffixes
     suffixes-vector = rw (ne-eqb (v .kind c) 2 (λ z. omega arith))
 
-    suffixes-length : length (suffixes g v c) ≡ v .size c
+    pub suffixes-length : length (suffixes g v c) ≡ v .size c
     suffixes-length = ap length suffixes-vector ∙ length-upTo (v .entry c) (v .size c)
 
-    suffixes-good : GoodSuffixes (g .S) (suffixes g v c)
-    suffixes-good =
+    -- what the reading has under the vector's prefix
+    pub suffixes-under : under (v .prefix c) (reading l .containers) ≡ suffixes g v c
+    unfolding reading
+    suffixes-under =
         let here : Ranked g v c = wf .shape .placed .ranked c h (λ e. omega arith) in
-        subst (GoodSuffixes (g .S)) (under-set g v (wf .shape .placed) (seen-bits g l) (v .prefix c) (here .in-range) (here .is-set) ∙ ap (suffixes g v) (here .there))
-        (each-under (g .P) (g .S) (v .prefix c) (read g v .containers) (containers-good g v (wf .shape .held) (wf .shape .placed) (seen-bits g l)))
+        under-set g v (wf .shape .placed) (seen-bits g l) (v .prefix c) (here .in-range) (here .is-set) ∙ ap (suffixes g v) (here .there)
+
+    suffixes-good : GoodSuffixes (g .S) (suffixes g v c)
+    unfolding reading
+    suffixes-good = subst (GoodSuffixes (g .S)) suffixes-under (each-under (g .P) (g .S) (v .prefix c) (read g v .containers) (containers-good g v (wf .shape .held) (wf .shape .placed) (seen-bits g l)))
 
     pub size-counted : v .size c ≤ g .count
     size-counted = omega (arith, suffixes-length, count-covers l wf c h (λ e. omega arith))
@@ -161,3 +168,17 @@ module _ (l : List ℕ) (wf : WellFormed l) (c : ℕ) (h : c < numbers l .C) whe
         reads-with new (r .long ∙ strip-long) n′ m′ (omega arith) (omega (arith, size-few)) (omega arith) l′ st (swapOut gone (suffixes g v c))
         (ap (λ (z : ℕ). take z new) one-less ∙ r .gone ∙ ap₂ (λ (x : ℕ) (z : List ℕ). swapOut x z) (strip-at i (omega (arith, size-few))) (front-is n e))
         (subst (GoodSuffixes (g .S)) vector (good-taken (g .S) gone (suffixes g v c) suffixes-good))
+
+    -- what is asked where some entries come behind n
+    pub gather-ready : (n k : ℕ) → n ≡ v .size c → v .size c + k ≤ threshold → n + k ≤ length (stripOf l c)
+    gather-ready n k e room = omega (arith, strip-long)
+
+    -- some entries more
+    pub pushed-all : {ss : List ℕ} → v .size c + length ss ≤ threshold → ((i : ℕ) → i < length ss → getD ss i 0 < 2 ^ g .S)
+        → {n r : ℕ} {new : List ℕ} → Gathered (stripOf l c) n ss r new → n ≡ v .size c
+        → {m′ : ℕ} {l′ : List ℕ} → Settled c r m′ (withStrip l c new) l′ → m′ ≡ g .count + (r - n)
+        → ReadsAs l (with (reading l) (placed (v .prefix c) 0 (gathered (suffixes g v c) ss) (reading l .containers)) (reading l .free)) l′
+    pushed-all {ss} room small {n} {r} {new} a e {m′} {l′} st em =
+        reads-with new (a .long ∙ strip-long) r m′ (omega (arith, a .more, wf .shape .held .vector c h k .some)) (omega (arith, a .few)) (omega (arith, a .more)) l′ st (gathered (suffixes g v c) ss)
+        (a .front ∙ ap (λ (z : List ℕ). gathered z ss) (front-is n e))
+        (good-gathered (g .S) (suffixes g v c) ss suffixes-good small (omega (arith, suffixes-length)))

@@ -256,7 +256,7 @@ fn trie<const B: usize>(size: &str, end: u64) {
             rust_run(&mut theirs, &vec![1; many], members);
             answers_right(&ours, members, fresh);
 
-            let rounds = if many > 10000 { 5 } else { 9 };
+            let rounds = 15;
             let shape = if even { "even" } else { "random" };
             let name = |what: &str| format!("trie: {}, {shape}, {size}, {what}", grouped(many));
             let times = COMMANDS / many;

@@ -19,11 +19,11 @@ abbrev μ-loop : tie.MeasureT-loop
 loop-holds : tie.Need-loop-holds Inv-loop μ-loop
 loop-holds c = (search needs, refl)
 
-sub-at-most-16 : tie.Need-sub-at-most-16 Inv-loop μ-loop
-sub-at-most-16 c = search needs
+sub-at-most-64 : tie.Need-sub-at-most-64 Inv-loop μ-loop
+sub-at-most-64 c = search needs
 
-at-most-16-requires : tie.Need-at-most-16-requires Inv-loop μ-loop
-at-most-16-requires c κs = search needs
+at-most-64-requires : tie.Need-at-most-64-requires Inv-loop μ-loop
+at-most-64-requires c κs = search needs
 
 sub-contains-each : tie.Need-sub-contains-each Inv-loop μ-loop
 sub-contains-each c = search needs
@@ -66,8 +66,8 @@ contains-each-requires c κs =
     let a = c .before .before .before .before .before .before .before .before .before .before .args in
     let z = c .before .before .before .before .before .before .before .before .before .before .pre in
     let i = c .before .before .before .before .before .before .loop .i in
-    let n = c .before .before .before .before .at-most-16 .result in
-    let few : n ≤ 16 = c .before .before .before .before .at-most-16 .ensures .2 in
+    let n = c .before .before .before .before .at-most-64 .result in
+    let few : n ≤ 64 = c .before .before .before .before .at-most-64 .ensures .2 in
     let room : i + n ≤ length (now (a .suffixes)) = search needs in
     let asked = part-long i n (now (a .suffixes)) room in
     let answered = part-long i n (c .before .before .before .before .before .before .loop .answers) (omega (arith, c .before .before .before .before .before .before .loop .inv .1, z .1 .1 .1)) in
@@ -96,8 +96,8 @@ ask-spec =
     Inv-loop
     μ-loop
     loop-holds
-    sub-at-most-16
-    at-most-16-requires
+    sub-at-most-64
+    at-most-64-requires
     sub-contains-each
     part-contains-each-start
     part-contains-each-end

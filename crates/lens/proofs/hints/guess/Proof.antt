@@ -1,7 +1,9 @@
 -- More than 64 containers are in use, so some are. Assumes nothing.
 use Prim.Native.Nat.{_-_}
+use mathlib.Core.Bool.{true≢false}
 use native.Mathlib.Omega.{arith}
 use borrow.Author.Needs.{needs}
+use borrow.Author.Tests.{not-true}
 use Rattle.lens.proofs.hints.guess.Statement.{statement}
 use Rattle.lens.proofs.hints.guess.Tie as tie
 
@@ -15,13 +17,13 @@ k-requires : tie.Need-k-requires Inv-loop μ-loop
 k-requires c κs = search needs
 
 returns : tie.Need-returns Inv-loop μ-loop
-returns c = search needs
+returns c e = absurd (true≢false e)
 
 any-set-requires : tie.Need-any-set-requires Inv-loop μ-loop
 any-set-requires c κs = search needs
 
 returns-2 : tie.Need-returns-2 Inv-loop μ-loop
-returns-2 c = search needs
+returns-2 c e = c .before .any-set .ensures (not-true _ (c .if2 .taken))
 
 ends-requires : tie.Need-ends-requires Inv-loop μ-loop
 ends-requires c κs =
@@ -66,7 +68,7 @@ slots-requires c κs =
     (s .pre .0, (s .pre .1, (e .before .k .ensures, omega (arith, e .if1 .left))))
 
 returns-3 : tie.Need-returns-3 Inv-loop μ-loop
-returns-3 c = search needs
+returns-3 c e = absurd (true≢false e)
 
 pub guess-spec : {M : Type 1} → statement M
 guess-spec =

@@ -3,7 +3,7 @@ use Prim.Native.Nat.{_-_}
 use native.Mathlib.Omega.{arith}
 use borrow.Author.Needs.{needs}
 use lib.ListN.{length}
-use Rattle.lens.proofs.Ranks.{place-small}
+use Rattle.lens.proofs.Ranks.{place-small, slot-small}
 use Rattle.lens.proofs.hints.slots.Statement.{statement}
 use Rattle.lens.proofs.hints.slots.Tie as tie
 
@@ -29,6 +29,15 @@ slot-requires : tie.Need-slot-requires Inv-loop μ-loop
 slot-requires c κs =
     let s = c .before .before .before .before .before .before in
     (s .pre .0 .ready, place-small (s .pre .0) (c .clamped .result) (omega (arith, c .clamped .ensures, s .pre .1 .1 .0)))
+
+entry-requires : tie.Need-entry-requires Inv-loop μ-loop
+entry-requires c κs =
+    let m = c .before in
+    let s = m .before .before .before .before .before .before in
+    (s .pre .0 .ready, (rw (c .slot .ensures) (slot-small (s .pre .0) (m .clamped .result) (omega (arith, m .clamped .ensures, s .pre .1 .1 .0))), omega arith))
+
+wrapping-add-usize-requires : tie.Need-wrapping-add-usize-requires Inv-loop μ-loop
+wrapping-add-usize-requires c κs = search needs
 
 mul-places : tie.Need-mul-places Inv-loop μ-loop
 mul-places c = search needs
@@ -59,6 +68,8 @@ slots-spec =
     element-copy-out-clamped
     clamped-requires
     slot-requires
+    entry-requires
+    wrapping-add-usize-requires
     mul-places
     element-write-places
     add-i

@@ -1,69 +1,42 @@
--- Each entry before i is below the next. Assumes nothing.
+-- A quick yes is right; otherwise each entry is looked at. Assumes nothing.
+use mathlib.Core.Bool.{true≢false}
 use borrow.Author.Needs.{needs}
-use Prim.Native.Nat.{ℕ, suc, _-_, _≤_, _<_}
-use native.Mathlib.Omega.{arith}
-use lib.ListN.{length, getD}
-use Rattle.strip.proofs.PlaceLaws.{falls-no, rises-yes, rises-more}
 use Rattle.strip.proofs.differ.rising.Statement.{statement}
 use Rattle.strip.proofs.differ.rising.Tie as tie
 
-abbrev Inv-loop : tie.InvT-loop
-Inv-loop entries i₀ i = (1 ≤ i) × ((k : ℕ) → suc k < i → getD entries k 0 < getD entries (suc k) 0)
+sub-rising-each : tie.Need-sub-rising-each
+sub-rising-each c = search needs
 
-abbrev μ-loop : tie.MeasureT-loop
-μ-loop entries i₀ i = length entries - i
+part-rising-each-start : tie.Need-part-rising-each-start
+part-rising-each-start c = search needs
 
-loop-holds : tie.Need-loop-holds Inv-loop μ-loop
-loop-holds c = (omega arith, λ k l. absurd (omega arith))
+part-rising-each-end : tie.Need-part-rising-each-end
+part-rising-each-end c = search needs
 
-sub-if1 : tie.Need-sub-if1 Inv-loop μ-loop
-sub-if1 c = search needs
+rising-each-requires : tie.Need-rising-each-requires
+rising-each-requires c κs = search needs
 
-mul-if1 : tie.Need-mul-if1 Inv-loop μ-loop
-mul-if1 c = search needs
+rising-gently-requires : tie.Need-rising-gently-requires
+rising-gently-requires c κs = search needs
 
-shared-slice-read-if1 : tie.Need-shared-slice-read-if1 Inv-loop μ-loop
-shared-slice-read-if1 c = search needs
+returns : tie.Need-returns
+returns c = (λ _. c .before .rising-gently .ensures (c .if3 .taken), λ e _. true≢false e)
 
-mul-if1-2 : tie.Need-mul-if1-2 Inv-loop μ-loop
-mul-if1-2 c = search needs
+rising-each-requires-2 : tie.Need-rising-each-requires-2
+rising-each-requires-2 c κs = search needs
 
-shared-slice-read-if1-2 : tie.Need-shared-slice-read-if1-2 Inv-loop μ-loop
-shared-slice-read-if1-2 c = search needs
-
-returns : tie.Need-returns Inv-loop μ-loop
-returns c =
-    let at = c .before .before .before .before in
-    falls-no (at .before .args .entries .now) (at .loop .i) (omega arith) (omega arith) (c .if1 .taken)
-
-add-i : tie.Need-add-i Inv-loop μ-loop
-add-i c = search needs
-
-loop-less : tie.Need-loop-less Inv-loop μ-loop
-loop-less c = search needs
-
-loop-again : tie.Need-loop-again Inv-loop μ-loop
-loop-again c =
-    let at = c .before .before .before .before in
-    (omega arith, λ k l. rises-more (at .before .args .entries .now) (at .loop .i) (omega arith) (at .loop .inv .1) (c .if1 .left) k (omega arith))
-
-returns-2 : tie.Need-returns-2 Inv-loop μ-loop
-returns-2 c = rises-yes (c .before .before .args .entries .now) (c .before .loop .i) (omega arith) (c .before .loop .inv .1)
+returns-2 : tie.Need-returns-2
+returns-2 c = c .rising-each2 .ensures
 
 pub rising-spec : {M : Type 1} → statement M
 rising-spec =
     tie.close
     (tie.spec
-    Inv-loop
-    μ-loop
-    loop-holds
-    sub-if1
-    mul-if1
-    shared-slice-read-if1
-    mul-if1-2
-    shared-slice-read-if1-2
+    sub-rising-each
+    part-rising-each-start
+    part-rising-each-end
+    rising-each-requires
+    rising-gently-requires
     returns
-    add-i
-    loop-less
-    loop-again
+    rising-each-requires-2
     returns-2)

@@ -11,15 +11,12 @@ use Rattle.wordset_list.proofs.Joining.{up-to-end}
 use Rattle.wordset_list.proofs.commands.run_block.Statement.{statement}
 use Rattle.wordset_list.proofs.commands.run_block.Tie as tie
 
-guess-requires : tie.Need-guess-requires
-guess-requires c κs = search needs
-
 all-lookups-requires : tie.Need-all-lookups-requires
 all-lookups-requires c κs = search needs
 
 contains-each-requires : tie.Need-contains-each-requires
 contains-each-requires c κs =
-    let at = c .before .before .before .before .before .before .before .before .before .before .before .before in
+    let at = c .before .before .before .before .before .before .before .before .before in
     let a = at .args in
     (at .pre .0, (at .pre .1 .1 .0, (at .pre .1 .1 .1 .0, λ i h. word-read (a .region .now) (a .words .now) i (at .pre .1 .1 .1 .1 .1) h)))
 
@@ -33,10 +30,13 @@ returns : tie.Need-returns
 returns c =
     let each = c .before .before .contains-each in
     let lookups = c .before .before .before .before .before .before .before .all-lookups in
-    let at = c .before .before .before .before .before .before .before .before .before .before .before .before .before .before .before in
+    let at = c .before .before .before .before .before .before .before .before .before .before .before .before in
     let a = at .args in
     subst (λ (t : Told (Unit {0})). RanAs (a .region .now) (a .codes .now) (a .words .now) (a .answers .now) t (a .region .now) (each .last .1 .1 .1 .0)) (sym (up-to-end (length (a .words .now)) (length (a .words .now)) (omega arith)))
     (looked-block (a .region .now) (a .codes .now) (a .words .now) (a .answers .now) (each .last .1 .1 .1 .0) (at .pre .0) (at .pre .1 .0) (at .pre .1 .1 .1 .0) (sym (lookups .ensures) ∙ c .before .before .before .before .before .before .if1 .taken) (each .ensures .0) (each .ensures .1 .0) (each .ensures .1 .1))
+
+guess-requires : tie.Need-guess-requires
+guess-requires c κs = search needs
 
 run-each-requires : tie.Need-run-each-requires
 run-each-requires c κs = search needs
@@ -54,12 +54,12 @@ pub run-block-spec : {M : Type 1} → statement M
 run-block-spec =
     tie.close
     (tie.spec
-    guess-requires
     all-lookups-requires
     contains-each-requires
     same-length
     same-length-2
     returns
+    guess-requires
     run-each-requires
     same-length-3
     same-length-4
