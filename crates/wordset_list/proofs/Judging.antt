@@ -1,18 +1,22 @@
--- The first entry that fails a test, found from the front; a word of p + s bits by two shifts. Assumes nothing.
-use mathlib.Core.Path.{_≡_, sym, ap, _∙_, subst}
+-- The first entry that fails a test, found from the front; a word of p + s bits by two shifts or by a bound; bits joined. Assumes nothing.
+use mathlib.Core.Path.{_≡_, refl, sym, ap, _∙_, subst}
 use mathlib.Core.Bool.{Bool, true, false, _&&_}
 use mathlib.Core.List.{List, [], _∷_}
 use Prim.Native.Nat.{ℕ, zero, suc, _+_, _*_, _/_, _%_, _^_, _≤_, _<_}
 use native.Mathlib.Omega.{arith}
-use native.Mathlib.Nat.{mod-lt}
+use native.Mathlib.Nat.{mod-lt, one-mul}
 use native.Mathlib.Decide.{decLt}
+use lib.Bits.{bitOr, or-add-and}
+use lib.Dec.{eqb, ltb}
 use lib.ListN.{length, drop, getD}
 use lib.Seq.{drop-cons, drop-length}
 use lib.Pow.{pow-pos, shr-shr, shr-lt, split}
-use borrow.Author.Tests.{lt-ltb, le-ltb}
+use borrow.Author.Tests.{lt-ltb, le-ltb, eqb-true, eq-eqb}
 use Rattle.lists.specs.Lists.{firstBad, all}
-use Rattle.lists.proofs.Laws.{by-test}
+use Rattle.lists.proofs.Laws.{by-test, and-both, both-and, iff-eq}
 use Rattle.model.specs.Words.{isWord}
+use Rattle.bitvector.proofs.WordLaws.{shl-one}
+use Rattle.strip.proofs.BoundLaws.{places-all, or-above}
 
 module _ (t : ℕ → Bool) where
   -- a first entry that passes is passed over
@@ -52,6 +56,11 @@ module _ (t : ℕ → Bool) where
   past-end [] h = omega arith
   past-end (x ∷ xs) h = omega (arith, at-start x xs (h 0 (omega arith)), past-end xs (λ i k. h (suc i) (omega arith)))
 
+  -- where all pass, the first that fails is the end
+  pub none-bad : (xs : List ℕ) → all t xs ≡ true → length xs ≡ firstBad t xs
+  none-bad [] e = refl
+  none-bad (x ∷ xs) e = let b = and-both (t x) (all t xs) e in omega (arith, at-start x xs (b .0), none-bad xs (b .1))
+
   -- entry i passes: all do if those behind it do
   pub all-more : (xs : List ℕ) (i : ℕ) → i < length xs → t (getD xs i 0) ≡ true → all t (drop i xs) ≡ all t (drop (suc i) xs)
   all-more xs i h g = ap (all t) (drop-cons xs i 0 h) ∙ ap (λ (b : Bool). b && all t (drop (suc i) xs)) g
@@ -80,3 +89,29 @@ large-word w p s h = by-lt (decLt w (2 ^ (p + s)))
     by-lt : Dec (w < 2 ^ (p + s)) → isWord p s w ≡ false
     by-lt (yes l) = absurd (h (let k : 0 + p ≡ p = omega arith in let z : w / 2 ^ s / 2 ^ p < 2 ^ 0 = shr-lt 0 p (subst (λ (b : ℕ). w / 2 ^ s < 2 ^ b) (sym k) (shr-lt p s l)) in omega arith))
     by-lt (no n) = le-ltb w (2 ^ (p + s)) (omega arith)
+
+-- no word of a machine has more than 64 bits
+pub none-large-64 : (words : List ℕ) (p s : ℕ) → p + s ≡ 64 → ((i : ℕ) → getD words i 0 < 2 ^ 64) → length words ≡ firstBad (isWord p s) words
+none-large-64 words p s e fits =
+    none-bad (isWord p s) words (places-all (isWord p s) words (λ i h. lt-ltb (getD words i 0) (2 ^ (p + s)) (subst (λ (k : ℕ). getD words i 0 < 2 ^ k) (sym e) (fits i))))
+
+-- all words are below the bound as the code makes it: none is too large
+pub none-large : (words : List ℕ) (p s : ℕ) → p + s < 64 → all (λ x. ltb x ((1 * 2 ^ (p + s)) % 2 ^ 64)) words ≡ true → length words ≡ firstBad (isWord p s) words
+none-large words p s h e =
+    let b : (1 * 2 ^ (p + s)) % 2 ^ 64 ≡ 2 ^ (p + s) = shl-one (p + s) h ∙ one-mul (2 ^ (p + s)) in
+    none-bad (isWord p s) words (ap (λ (k : ℕ). all (λ x. ltb x k) words) (sym b) ∙ e)
+
+-- joined bits are 0 if both numbers are
+pub or-none : (a b : ℕ) → eqb (bitOr a b) 0 ≡ (eqb b 0 && eqb a 0)
+or-none a b = iff-eq (eqb (bitOr a b) 0) (eqb b 0 && eqb a 0) apart together
+  where
+    apart : eqb (bitOr a b) 0 ≡ true → (eqb b 0 && eqb a 0) ≡ true
+    apart e =
+        let o = or-above a b in
+        let z : bitOr a b ≡ 0 = eqb-true (bitOr a b) 0 e in
+        both-and (eqb b 0) (eqb a 0) (eq-eqb b 0 (omega arith)) (eq-eqb a 0 (omega arith))
+
+    together : (eqb b 0 && eqb a 0) ≡ true → eqb (bitOr a b) 0 ≡ true
+    together e =
+        let t = and-both (eqb b 0) (eqb a 0) e in
+        eq-eqb (bitOr a b) 0 (omega (arith, eqb-true b 0 (t .0), eqb-true a 0 (t .1), or-add-and a b))

@@ -1,11 +1,11 @@
 -- A test of all entries, on a part of them. Assumes nothing.
 use mathlib.Core.Path.{_≡_, refl, sym, ap, ap₂, _∙_}
-use mathlib.Core.Bool.{Bool, _&&_}
+use mathlib.Core.Bool.{Bool, _&&_, and-true}
 use mathlib.Core.List.{List, [], _∷_, _++_}
-use Prim.Native.Nat.{ℕ, _+_, _≤_}
+use Prim.Native.Nat.{ℕ, suc, _+_, _≤_, _<_}
 use native.Mathlib.Omega.{arith}
 use lib.ListN.{length, take, drop, getD, length-drop, take-append-drop}
-use lib.Seq.{drop-drop, length-take-le, getD-take, getD-drop}
+use lib.Seq.{drop-drop, length-take-le, getD-take, getD-drop, take-suc}
 use Rattle.lists.specs.Lists.{all, firstBad}
 use Rattle.lists.proofs.Laws.{by-test}
 use Rattle.wordset_list.proofs.Judging.{passes, past-end}
@@ -31,3 +31,10 @@ module _ (t : ℕ → Bool) where
       ap (all t) (sym (take-append-drop n (drop i xs)))
       ∙ all-append (take n (drop i xs)) (drop n (drop i xs))
       ∙ ap₂ _&&_ e (ap (all t) (drop-drop n i xs))
+
+  -- all up to entry i and with it
+  pub all-one-more : (xs : List ℕ) (i : ℕ) → i < length xs → all t (take (suc i) xs) ≡ (all t (take i xs) && t (getD xs i 0))
+  all-one-more xs i h =
+      ap (all t) (take-suc xs i 0 h)
+      ∙ all-append (take i xs) (getD xs i 0 ∷ [])
+      ∙ ap (λ (b : Bool). all t (take i xs) && b) (and-true (t (getD xs i 0)))

@@ -51,18 +51,17 @@ pub fn perform(region: &mut [u64], code: u8, w: u64, hint: usize) -> Performed
     Performed::Answered(0)
 }
 
-// Whether all codes are 0.
+// Whether all codes are 0: their joined bits are.
 fn all_lookups(codes: &[u8]) -> bool
     ensures { λ r. ⌜ r ≡ all isLookup (now (codes .entry)) ⌝ }
 {
+    let mut bits: u8 = 0;
     let mut i: usize = 0;
     while i < codes.len() {
-        if codes[i] != 0 {
-            return false;
-        }
+        bits = codes[i] | bits;
         i += 1;
     }
-    true
+    bits == 0
 }
 
 // Runs a block one command after the other, up to the first that finds no room: how many were answered.

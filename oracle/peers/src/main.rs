@@ -526,6 +526,11 @@ impl Table {
     }
 }
 
+/// Whether a shape is to be measured: all are, unless `oracle/bench --only TEXT` names some.
+fn wanted(name: &str) -> bool {
+    std::env::var("BROTHOWL_ONLY").map_or(true, |some| name.contains(&some))
+}
+
 fn main() {
     let mut numbers = Numbers(2026);
     let mut table = Table::default();
@@ -542,7 +547,7 @@ fn main() {
         random_shape(&mut numbers, "trie of 100,000, random", 100000, 5000),
         even_shape(&mut numbers, "trie of 100,000, even", 100000, 5000),
     ];
-    for shape in &shapes {
+    for shape in shapes.iter().filter(|shape| wanted(shape.name)) {
         let times = in_turn([
             &mut || port_steps(shape),
             &mut || steps::<WordSet<12, 28>>(shape),
@@ -579,6 +584,9 @@ fn main() {
             shape.absent = under(new, 1);
             shape.new = under(new, 1);
         }
+        if !wanted(shape.name) {
+            continue;
+        }
         // A new prefix is held against the Rust with a flat table, as the port's is.
         let times = in_turn([
             &mut || port_steps(&shape),
@@ -597,6 +605,9 @@ fn main() {
         ("1,024 to 1,025 and back, random", &random_members, 1 << 27),
         ("1,024 to 1,025 and back, even", &even_members, 2048),
     ] {
+        if !wanted(name) {
+            continue;
+        }
         let times = in_turn([
             &mut || [port_crossing(members, new)],
             &mut || [crossing::<WordSet<12, 28>>(members, new)],
@@ -609,6 +620,9 @@ fn main() {
     for (name, prefixes) in [("two of 100,000, one prefix", 1), ("two of 100,000, 64 tries", 64), ("two of 100,000, 4,096 vectors", 4096)] {
         // Half of each side is on both.
         let words = random(&mut numbers, 150000, |numbers| (numbers.below(prefixes) << 28) + numbers.below(1 << 28));
+        if !wanted(name) {
+            continue;
+        }
         let (a, b) = (&words[..100000], &words[50000..]);
         let expected: [u64; 4] = [150000, 50000, 50000, 100000];
         let times = in_turn([
@@ -627,6 +641,9 @@ fn main() {
 
     println!();
     println!("{}", table.above());
+    if std::env::var("BROTHOWL_ONLY").is_ok() {
+        return;
+    }
     println!();
     println!("The check, and a list of 4,096 lookups through the exported entry, which checks first. A vector's distinctness is apart:");
     println!("the check's second column is of vectors whose entries ascend, which are told distinct by one look at each entry. The words");

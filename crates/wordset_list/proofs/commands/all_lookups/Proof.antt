@@ -1,35 +1,31 @@
--- Every code before i is 0. Assumes nothing.
-use mathlib.Core.Path.{_≡_, sym, _∙_}
-use Prim.Native.Nat.{_-_, _≤_}
+-- The bits joined up to i are 0 if every code before i is. Assumes nothing.
+use borrow.Author.Needs.{needs}
+use mathlib.Core.Path.{_≡_, sym, ap, _∙_}
+use mathlib.Core.Bool.{Bool, _&&_}
+use Prim.Native.Nat.{_-_, _≤_, _<_}
 use native.Mathlib.Omega.{arith}
 use native.Mathlib.Numerals.{add-one}
-use lib.ListN.{length, drop, getD}
-use borrow.Author.Needs.{needs}
-use borrow.Author.Tests.{eq-eqb, ne-eqb}
+use lib.Dec.{eqb}
+use lib.ListN.{length, take, getD}
+use lib.Seq.{take-all}
 use Rattle.lists.specs.Lists.{all}
 use Rattle.wordset_list.specs.Performing.{isLookup}
-use Rattle.wordset_list.proofs.Judging.{all-more, all-not, all-end}
+use Rattle.wordset_list.proofs.Judging.{or-none}
+use Rattle.wordset_list.proofs.Parts.{all-one-more}
 use Rattle.wordset_list.proofs.commands.all_lookups.Statement.{statement}
 use Rattle.wordset_list.proofs.commands.all_lookups.Tie as tie
 
 abbrev Inv-loop : tie.InvT-loop
-Inv-loop codes i₀ i = (i ≤ length codes) × (all isLookup codes ≡ all isLookup (drop i codes))
+Inv-loop codes bits₀ i₀ bits i = (i ≤ length codes) × (eqb bits 0 ≡ all isLookup (take i codes))
 
 abbrev μ-loop : tie.MeasureT-loop
-μ-loop codes i₀ i = length codes - i
+μ-loop codes bits₀ i₀ bits i = length codes - i
 
 loop-holds : tie.Need-loop-holds Inv-loop μ-loop
 loop-holds c = search needs
 
-shared-slice-read-if1 : tie.Need-shared-slice-read-if1 Inv-loop μ-loop
-shared-slice-read-if1 c = search needs
-
-returns : tie.Need-returns Inv-loop μ-loop
-returns c =
-    let at = c .before .before .before in
-    let xs = at .before .args .codes .now in
-    let i = at .loop .i in
-    sym (at .loop .inv .1 ∙ all-not isLookup xs i (omega arith) (ne-eqb (getD xs i 0) 0 (λ z. absurd (omega (arith, z, c .if1 .taken)))))
+shared-slice-read-bits : tie.Need-shared-slice-read-bits Inv-loop μ-loop
+shared-slice-read-bits c = search needs
 
 add-i : tie.Need-add-i Inv-loop μ-loop
 add-i c = search needs
@@ -39,13 +35,14 @@ loop-less c = search needs
 
 loop-again : tie.Need-loop-again Inv-loop μ-loop
 loop-again c =
-    let at = c .before .before .before in
+    let at = c .before .before in
     let xs = at .before .args .codes .now in
     let i = at .loop .i in
-    (omega arith, rw add-one (at .loop .inv .1 ∙ all-more isLookup xs i (omega arith) (eq-eqb (getD xs i 0) 0 (omega (arith, c .if1 .left)))))
+    let h : i < length xs = omega arith in
+    (omega arith, rw add-one (or-none (getD xs i 0) (at .loop .bits) ∙ ap (λ (b : Bool). b && isLookup (getD xs i 0)) (at .loop .inv .1) ∙ sym (all-one-more isLookup xs i h)))
 
-returns-2 : tie.Need-returns-2 Inv-loop μ-loop
-returns-2 c = sym (c .before .loop .inv .1 ∙ all-end isLookup (c .before .before .args .codes .now) (c .before .loop .i) (omega arith))
+returns : tie.Need-returns Inv-loop μ-loop
+returns c = c .before .loop .inv .1 ∙ ap (all isLookup) (take-all (c .before .loop .i) (c .before .before .args .codes .now) (omega arith))
 
 pub all-lookups-spec : {M : Type 1} → statement M
 all-lookups-spec =
@@ -54,9 +51,8 @@ all-lookups-spec =
     Inv-loop
     μ-loop
     loop-holds
-    shared-slice-read-if1
-    returns
+    shared-slice-read-bits
     add-i
     loop-less
     loop-again
-    returns-2)
+    returns)
