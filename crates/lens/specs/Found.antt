@@ -15,6 +15,11 @@ abbrev pub FoundAs : List ℕ → ℕ → Place → Type 0
 FoundAs l p (At c) = (seen (numbers l) l .bit p ≡ 1) × (c ≡ seen (numbers l) l .slot (rankOf (numbers l) (seen (numbers l) l) p))
 FoundAs l p Nowhere = seen (numbers l) l .bit p ≡ 0
 
+-- a look that met p's container found it; one that did not says nothing
+abbrev pub MetAs : List ℕ → ℕ → Place → Type 0
+MetAs l p (At c) = FoundAs l p (At c)
+MetAs l p Nowhere = Unit {0}
+
 -- none of the first k words has its prefix set; the prefix is taken modulo 2^P, so that any number may stand for a word
 abbrev pub NoneSet : List ℕ → List ℕ → ℕ → Type 0
 NoneSet l words k = (i : ℕ) → i < k → seen (numbers l) l .bit (prefixOf (numbers l .S) (getD words i 0) % 2 ^ numbers l .P) ≡ 0

@@ -1,4 +1,4 @@
-// Guesses of slots. A rank search mostly waits for memory, and searches side by side wait together. Nothing is promised of a guess, but where no prefix is set that is told.
+// Guesses of ranks. A rank search mostly waits for memory, and searches side by side wait together. Nothing is promised of a guess, but where no prefix is set that is told.
 ghost use Prim.Native.Nat.{_<_, _≤_};
 ghost use mathlib.Core.Path.{_≡_};
 ghost use mathlib.Core.Bool.{false};
@@ -9,6 +9,7 @@ ghost use Rattle.lens.specs.Found.{NoneSet};
 use super::rank;
 use super::read;
 use std::num::wrapping_add_usize;
+use std::num::wrapping_sub_usize;
 
 // Rounds of looks: after as many, most prefixes that are spread evenly are met.
 const ROUNDS: usize = 5;
@@ -18,6 +19,9 @@ const WHOLE: usize = 3;
 
 // Prefixes are below this.
 const SPAN: usize = 16777216;
+
+// A distance with SPAN added to it is below this.
+const TWICE: usize = 33554432;
 
 // And a scale below this: two containers for each prefix are never there.
 const FINEST: usize = 33554432;
@@ -50,7 +54,7 @@ fn scale_of(pace: usize, width: usize) -> usize
 
 // How many places p stands past q at a scale. SPAN is added to the distance, so that it is never below zero.
 fn stride(q: usize, p: usize, scale: usize) -> usize {
-    (SPAN + p % SPAN - q % SPAN) * (scale % FINEST) / SPAN
+    wrapping_sub_usize(wrapping_add_usize(p, SPAN), q) % TWICE * (scale % FINEST) / SPAN
 }
 
 // 1 if q is below p, and 0 if not.
@@ -139,8 +143,8 @@ fn look(region: &[u64], words: &[u64], k: usize, scale: usize, places: &mut [u64
     }
 }
 
-// The slots at the places come to, with a look at the first entry of each: entries lie far apart, and side by side the looks wait together. An entry is below 2^40, so the guess stays the slot.
-fn slots(region: &[u64], words: &[u64], k: usize, places: &mut [u64; 64])
+// The places come to, with a look at the first entry of each: entries lie far apart, and side by side the looks wait together. An entry is below 2^40, so the guess stays the place.
+fn fetch(region: &[u64], words: &[u64], k: usize, places: &mut [u64; 64])
     requires { ⌜ WellFormed (now region) ⌝ }
     requires { ⌜ length (now words) ≤ 64 ⌝ }
     requires { ⌜ k ≡ numbers (now region) .k ⌝ }
@@ -148,14 +152,14 @@ fn slots(region: &[u64], words: &[u64], k: usize, places: &mut [u64; 64])
 {
     let mut i: usize = 0;
     while i < words.len() {
-        let c = read::slot(region, clamped(places[i], k));
-        let first = read::entry(region, c, 0);
-        places[i] = wrapping_add_usize(c, (first >> 40) as usize) as u64;
+        let m = clamped(places[i], k);
+        let first = read::entry(region, read::slot(region, m), 0);
+        places[i] = wrapping_add_usize(m, (first >> 40) as usize) as u64;
         i += 1;
     }
 }
 
-// Guesses of the slots of up to 64 words' prefixes, side by side, so that the waits for memory overlap. A guess may be wrong: `find` looks. No: no word's prefix is set.
+// Guesses of the ranks of up to 64 words' prefixes, side by side, so that the waits for memory overlap. A guess may be wrong: `find` looks. No: no word's prefix is set.
 pub fn guess(region: &[u64], words: &[u64], hints: &mut [u64; 64]) -> bool
     requires { ⌜ WellFormed (now region) ⌝ }
     requires { ⌜ length (now words) ≤ 64 ⌝ }
@@ -176,6 +180,6 @@ pub fn guess(region: &[u64], words: &[u64], hints: &mut [u64; 64]) -> bool
         look(region, words, k, scale_of(pace_in(round, k), width), hints);
         round += 1;
     }
-    slots(region, words, k, hints);
+    fetch(region, words, k, hints);
     true
 }

@@ -1,60 +1,87 @@
--- The record at the hint is in use and bears p, or p's bit says whether it has a rank. Assumes nothing.
-use mathlib.Core.Path.{sym, _∙_}
-use native.Mathlib.Omega.{arith}
+-- What a look met is p's container; else p's bit says whether it has a rank. Assumes nothing.
+use mathlib.Core.Path.{sym, subst, _∙_}
 use denote.Ref.{now}
 use borrow.Author.Tests.{eqb-true, not-true, not-false}
 use borrow.Author.Needs.{needs}
-use Rattle.lens.proofs.Found.{at-hint, nowhere}
+use Rattle.lens.specs.Found.{MetAs}
+use Rattle.lens.proofs.Found.{nowhere}
 use Rattle.lens.proofs.find.find.Statement.{statement}
 use Rattle.lens.proofs.find.find.Tie as tie
 
-c-requires : tie.Need-c-requires
-c-requires c κs = search needs
+meet-requires : tie.Need-meet-requires
+meet-requires c κs = search needs
 
-prefix-requires : tie.Need-prefix-requires
-prefix-requires c κs = search needs
+enum-known-c : tie.Need-enum-known-c
+enum-known-c c = search needs
 
-kind-requires : tie.Need-kind-requires
-kind-requires c κs = search needs
-
-returns : tie.Need-returns
-returns c =
-    let k = c .before in
-    let q = k .before .before in
-    let n = q .before .before in
-    let s = n .before .before in
-    at-hint (now (s .args .region)) (s .pre .0) (s .args .p) (s .args .hint) (q .prefix .result) (k .kind .result)
-    (omega (arith, n .c .ensures, q .before .if1 .taken)) (q .prefix .ensures) (k .kind .ensures) (omega (arith, k .before .if2 .taken)) (λ z. omega (arith, c .if3 .taken))
+enum-told : tie.Need-enum-told
+enum-told c = search needs
 
 bit-requires : tie.Need-bit-requires
 bit-requires c κs = search needs
 
-returns-2 : tie.Need-returns-2
-returns-2 c =
+returns : tie.Need-returns
+returns c =
     let b = c .before in
-    let s = b .before .before .before .before in
-    nowhere (now (s .args .region)) (s .pre .0) (s .args .p) (b .bit .result) (b .bit .ensures) (not-true _ (c .if4 .taken))
+    let s = b .before .before .before .before .before in
+    nowhere (now (s .args .region)) (s .pre .0) (s .args .p) (b .bit .result) (b .bit .ensures) (not-true _ (c .if1 .taken))
+
+k-requires : tie.Need-k-requires
+k-requires c κs = search needs
+
+worth-requires : tie.Need-worth-requires
+worth-requires c κs = search needs
+
+meet-requires-2 : tie.Need-meet-requires-2
+meet-requires-2 c κs = search needs
+
+enum-known-c-2 : tie.Need-enum-known-c-2
+enum-known-c-2 c = search needs
+
+enum-told-2 : tie.Need-enum-told-2
+enum-told-2 c = search needs
 
 slot-of-requires : tie.Need-slot-of-requires
 slot-of-requires c κs =
-    let b = c .before in
-    let s = b .before .before .before .before in
-    (s .pre .0, (s .pre .1, eqb-true _ 1 (sym (b .bit .ensures) ∙ not-false _ (c .if4 .left))))
+    let e = c .before .before .before .before .before in
+    let b = e .before in
+    let s = b .before .before .before .before .before in
+    (s .pre .0, (s .pre .1, eqb-true _ 1 (sym (b .bit .ensures) ∙ not-false _ (e .if1 .left))))
+
+returns-2 : tie.Need-returns-2
+returns-2 c =
+    let met = c .before in
+    let m = met .before .before in
+    let s = m .before .before in
+    subst (MetAs (now (s .args .region)) (s .args .p)) (met .c .given .1) (m .meet .ensures)
 
 returns-3 : tie.Need-returns-3
 returns-3 c =
-    let e = c .before in
-    (eqb-true _ 1 (sym (e .before .bit .ensures) ∙ not-false _ (e .if4 .left)), c .slot-of .ensures)
+    let met = c .before in
+    let m = met .before .before in
+    let s = m .before .before .before .before .before .before .before .before .before in
+    subst (MetAs (now (s .args .region)) (s .args .p)) (met .c2 .given .1) (m .meet2 .ensures)
+
+returns-4 : tie.Need-returns-4
+returns-4 c =
+    let e = c .before .before .before .before .before .before in
+    (eqb-true _ 1 (sym (e .before .bit .ensures) ∙ not-false _ (e .if1 .left)), c .slot-of .ensures)
 
 pub find-spec : {M : Type 1} → statement M
 find-spec =
     tie.close
     (tie.spec
-    c-requires
-    prefix-requires
-    kind-requires
-    returns
+    meet-requires
+    enum-known-c
+    enum-told
     bit-requires
-    returns-2
+    returns
+    k-requires
+    worth-requires
+    meet-requires-2
+    enum-known-c-2
+    enum-told-2
     slot-of-requires
-    returns-3)
+    returns-2
+    returns-3
+    returns-4)

@@ -61,8 +61,8 @@ loop-less c = search needs
 loop-again : tie.Need-loop-again Inv-loop μ-loop
 loop-again c = search needs
 
-slots-requires : tie.Need-slots-requires Inv-loop μ-loop
-slots-requires c κs =
+fetch-requires : tie.Need-fetch-requires Inv-loop μ-loop
+fetch-requires c κs =
     let e = c .before .before .before .before .before .before .before .before .before in
     let s = e .before .before .before .before in
     (s .pre .0, (s .pre .1, (e .before .k .ensures, omega (arith, e .if1 .left))))
@@ -90,5 +90,5 @@ guess-spec =
     add-round
     loop-less
     loop-again
-    slots-requires
+    fetch-requires
     returns-3)

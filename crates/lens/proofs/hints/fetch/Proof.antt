@@ -4,8 +4,8 @@ use native.Mathlib.Omega.{arith}
 use borrow.Author.Needs.{needs}
 use lib.ListN.{length}
 use Rattle.lens.proofs.Ranks.{place-small, slot-small}
-use Rattle.lens.proofs.hints.slots.Statement.{statement}
-use Rattle.lens.proofs.hints.slots.Tie as tie
+use Rattle.lens.proofs.hints.fetch.Statement.{statement}
+use Rattle.lens.proofs.hints.fetch.Tie as tie
 
 abbrev Inv-loop : tie.InvT-loop
 Inv-loop region words k places₀ i₀ places i = Unit {0}
@@ -57,8 +57,8 @@ loop-again c = search needs
 returns : tie.Need-returns Inv-loop μ-loop
 returns c = search needs
 
-pub slots-spec : {M : Type 1} → statement M
-slots-spec =
+pub fetch-spec : {M : Type 1} → statement M
+fetch-spec =
     tie.close
     (tie.spec
     Inv-loop
