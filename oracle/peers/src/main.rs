@@ -398,19 +398,23 @@ fn combinations<T: Peer>(a: &[u64], b: &[u64], expected: [u64; 4]) -> [f64; 4] {
 
 const OPERATIONS: [Operation; 4] = [Operation::Or, Operation::And, Operation::Minus, Operation::Xor];
 
-/// The port's: the checks of the three regions, timed alone, are taken off.
+/// The port's: the least time of a call, less the least time of the three checks that it makes, timed alone before each call.
 fn port_combinations(a: &[u64], b: &[u64], all: &[u64], expected: [u64; 4]) -> [f64; 4] {
     let (left, right) = (ported((12, 28), a, a), ported((12, 28), b, b));
-    let checks = check(left.region()) + check(right.region());
     std::array::from_fn(|code| {
         let mut destination = ported((12, 28), all, &[]);
-        least(|| {
+        let (mut call, mut checks) = (f64::INFINITY, f64::INFINITY);
+        for _ in 0..ROUNDS {
             // as it was left by the round before, like a region that is used again
-            let third = check(destination.region());
+            let three = [left.region(), right.region(), destination.region()];
+            let (time, good) = clocked(|| three.iter().all(|region| brothowl::check(black_box(region)).is_ok()));
+            assert!(good);
+            checks = checks.min(time);
             let (time, told) = clocked(|| destination.combine(OPERATIONS[code], &left, &right));
             assert_eq!((told, destination.len()), (Ok(()), expected[code]), "a wrong combination");
-            (time - checks - third).max(0.0)
-        })
+            call = call.min(time);
+        }
+        (call - checks).max(0.0)
     })
 }
 
