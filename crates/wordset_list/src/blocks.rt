@@ -1,4 +1,4 @@
-// The blocks of a list: up to 64 words, whose slots are guessed side by side.
+// The blocks of a list: up to 64 words, whose ranks are guessed side by side.
 ghost use Prim.Native.Nat.{_+_, _<_, _≤_};
 
 // The end of the block that begins at i.

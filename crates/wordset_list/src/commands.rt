@@ -25,7 +25,7 @@ pub enum Performed {
     NoRoom,
 }
 
-// Performs one command: 0 lookup, 1 insert, 2 remove. The hint says where its slot may be.
+// Performs one command: 0 lookup, 1 insert, 2 remove. The hint says at which rank its container may stand.
 pub fn perform(region: &mut [u64], code: u8, w: u64, hint: usize) -> Performed
     requires { ⌜ WellFormed (now region) ⌝ }
     requires { ⌜ w < 2 ^ (numbers (now region) .P + numbers (now region) .S) ⌝ }
@@ -95,7 +95,7 @@ fn run_each(
     i
 }
 
-// Runs a block: lookups alone are answered side by side, since they change nothing; else its slots are guessed side by side.
+// Runs a block: lookups alone are answered side by side, since they change nothing; else the ranks of its words are guessed side by side.
 fn run_block(
     region: &mut [u64],
     codes: &[u8],
