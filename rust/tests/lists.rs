@@ -237,6 +237,55 @@ fn lookups_side_by_side() {
     }
 }
 
+/// Blocks of inserts none of whose prefixes is set are opened at once: every length about a block's, prefixes in any order, below,
+/// between and above the old ones; a prefix twice in a block; slots freed before in no order; room for all of them and for one less.
+#[test]
+fn new_prefixes_by_blocks() {
+    let mut random = Numbers64(11);
+    for (p, s) in [(9, 3), (12, 28), (24, 40)] {
+        for length in [1, 2, 3, 17, 63, 64, 65, 127, 128, 130, 200] {
+            for short in [0, 1, 40] {
+                let old = 60 + random.below(40);
+                let numbers = Numbers { p, s, containers: old + length as u64 - short.min(length as u64), nodes: 0 };
+                let (mut l, mut model) = (region(numbers), Model::new(numbers));
+                let mut prefixes: Vec<u64> = Vec::new();
+                while prefixes.len() < (old + length as u64) as usize {
+                    let prefix = random.below(1 << p);
+                    if !prefixes.contains(&prefix) {
+                        prefixes.push(prefix);
+                    }
+                }
+                let word = |prefix: u64, random: &mut Numbers64| (prefix << s) + random.below(1 << s);
+                let held: Vec<u64> = prefixes[..old as usize].iter().map(|&prefix| word(prefix, &mut random)).collect();
+                both(&mut l, &mut model, &vec![1; held.len()], &held, held.len()).unwrap();
+                // some go, so that the free slots stand in no order
+                both(&mut l, &mut model, &vec![2; 20], &held[..20], 20).unwrap();
+                let back: Vec<u64> = (0..20).rev().map(|i| held[(i * 7) % 20]).collect();
+                both(&mut l, &mut model, &vec![1; 13], &back[..13], 13).unwrap();
+                both(&mut l, &mut model, &vec![1; 7], &back[13..], 7).unwrap();
+                let new: Vec<u64> = prefixes[old as usize..].iter().map(|&prefix| word(prefix, &mut random)).collect();
+                let mut twice = new.clone();
+                twice.insert(random.below(length as u64) as usize, new[random.below(length as u64) as usize] ^ 1);
+                // each on a copy: all new; one prefix twice; one code that is no insert
+                for words in [&new, &twice] {
+                    for other in [None, Some(0), Some(2)] {
+                        let (mut l, mut model) = (l.clone(), model.clone());
+                        let mut codes = vec![1; words.len()];
+                        if let Some(code) = other {
+                            codes[random.below(words.len() as u64) as usize] = code;
+                        }
+                        let told = both(&mut l, &mut model, &codes, words, words.len() + 1);
+                        if other.is_none() {
+                            assert_eq!(told.is_err(), short > 0);
+                        }
+                        hold(&l, &model, MARK);
+                    }
+                }
+            }
+        }
+    }
+}
+
 #[test]
 fn the_longest_list_and_one_more() {
     let numbers = Numbers { p: 1, s: 40, containers: 2, nodes: 0 };

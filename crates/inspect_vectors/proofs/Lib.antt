@@ -1,2 +1,3 @@
+pub mod LastOne
 pub mod Strips
 pub mod Passing

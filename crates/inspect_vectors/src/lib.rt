@@ -3,25 +3,41 @@ ghost use mathlib.Core.Path.{_≡_};
 ghost use mathlib.Core.Bool.{true, false};
 ghost use Prim.Native.Nat.{ℕ, _^_, _<_, _≤_};
 ghost use lib.Dec.{ltb};
-ghost use Rattle.lists.specs.Lists.{all, Distinct};
+ghost use Rattle.lists.specs.Lists.{all, Ascending, Distinct};
 ghost use Rattle.region.specs.Areas.{numbers};
 ghost use Rattle.region.specs.Seen.{seen};
 ghost use Rattle.region.specs.WellFormed.{Ready, Vector};
 use lens::read;
 use strip::bounds::below;
 use strip::differ::distinct;
+use strip::differ::rising;
 use strip::trievec::TrieVec;
 
 // So many strips are fetched together.
 const AHEAD: usize = 16;
 
-// Whether suffixes are distinct and below 2^bits.
+// Whether suffixes that ascend are below a bound: the last one says so for all.
+fn last_below(suffixes: &[u64], bound: u64) -> bool
+    requires { ⌜ Ascending (now suffixes) ⌝ }
+    ensures { λ r. ⌜ r ≡ all (λ x. ltb x bound) (now (suffixes .entry)) ⌝ }
+{
+    if suffixes.len() == 0 {
+        return true;
+    }
+    suffixes[suffixes.len() - 1] < bound
+}
+
+// Whether suffixes are distinct and below 2^bits. Those that ascend are told by one pass.
 fn suffixes_ok(suffixes: &[u64], bits: usize) -> bool
     requires { ⌜ bits ≤ 40 ⌝ }
     ensures yes { λ r. ⌜ (r ≡ true → (all (λ x. ltb x (2 ^ bits)) (now (suffixes .entry)) ≡ true) × Distinct (now (suffixes .entry))) ⌝ }
     ensures no { λ r. ⌜ (r ≡ false → (all (λ x. ltb x (2 ^ bits)) (now (suffixes .entry)) ≡ true) × Distinct (now (suffixes .entry)) → ⊥) ⌝ }
 {
-    if !below(suffixes, 1u64 << bits) {
+    let bound = 1u64 << bits;
+    if rising(suffixes) {
+        return last_below(suffixes, bound);
+    }
+    if !below(suffixes, bound) {
         return false;
     }
     distinct(suffixes)

@@ -1,4 +1,4 @@
-// Guesses of ranks. A rank search mostly waits for memory, and searches side by side wait together. Nothing is promised of a guess, but where no prefix is set that is told.
+// Guesses of ranks. A rank search mostly waits for memory, and searches side by side wait together. Nothing is promised of a guess; whether a prefix is set at all is told.
 ghost use Prim.Native.Nat.{_<_, _≤_};
 ghost use mathlib.Core.Path.{_≡_};
 ghost use mathlib.Core.Bool.{false};
@@ -13,9 +13,6 @@ use std::num::wrapping_sub_usize;
 
 // Rounds of looks: after as many, most prefixes that are spread evenly are met.
 const ROUNDS: usize = 5;
-
-// The rounds of whole strides. After them strides are half as long, else many a guess goes to and fro about its place.
-const WHOLE: usize = 3;
 
 // Prefixes are below this.
 const SPAN: usize = 16777216;
@@ -35,14 +32,6 @@ fn clamped(g: u64, k: usize) -> usize
         return g as usize;
     }
     k - 1
-}
-
-// Of how many containers a round counts its strides.
-fn pace_in(round: usize, k: usize) -> usize {
-    if round < WHOLE {
-        return k;
-    }
-    k / 2
 }
 
 // Containers for each prefix, of `pace` among `width`, in parts of SPAN.
@@ -71,8 +60,8 @@ fn next(m: usize, q: usize, p: usize, scale: usize, still: usize) -> usize {
     rank::before(wrapping_add_usize(m, far), still)
 }
 
-// Whether a word's prefix is set: where none is, no guess is wanted.
-fn any_set(region: &[u64], words: &[u64]) -> bool
+// Whether a word's prefix is set. No: none is.
+pub fn any_set(region: &[u64], words: &[u64]) -> bool
     requires { ⌜ WellFormed (now region) ⌝ }
     ensures { λ r. ⌜ (r ≡ false → NoneSet (now (region .entry)) (now (words .entry)) (length (now (words .entry)))) ⌝ }
 {
@@ -159,27 +148,28 @@ fn fetch(region: &[u64], words: &[u64], k: usize, places: &mut [u64; 64])
     }
 }
 
-// Guesses of the ranks of up to 64 words' prefixes, side by side, so that the waits for memory overlap. A guess may be wrong: `find` looks. No: no word's prefix is set.
-pub fn guess(region: &[u64], words: &[u64], hints: &mut [u64; 64]) -> bool
+// Guesses of the ranks of up to 64 words' prefixes, side by side, so that the waits for memory overlap. A guess may be wrong: `find` looks.
+pub fn guess(region: &[u64], words: &[u64], hints: &mut [u64; 64])
     requires { ⌜ WellFormed (now region) ⌝ }
     requires { ⌜ length (now words) ≤ 64 ⌝ }
-    ensures { λ r. ⌜ (r ≡ false → NoneSet (now (region .entry)) (now (words .entry)) (length (now (words .entry)))) ⌝ }
 {
     let k = read::k(region);
     if k <= rank::MANY {
-        return true;
-    }
-    if !any_set(region, words) {
-        return false;
+        return;
     }
     let all = ends(region, k);
     let width = all.width;
     start(region, words, all.low, scale_of(k, width), hints);
     let mut round: usize = 0;
     while round < ROUNDS {
-        look(region, words, k, scale_of(pace_in(round, k), width), hints);
+        look(
+            region,
+            words,
+            k,
+            scale_of(rank::pace_in(round, k), width),
+            hints,
+        );
         round += 1;
     }
     fetch(region, words, k, hints);
-    true
 }

@@ -1,5 +1,5 @@
-// The rank of a prefix: prefixes ascend with the rank, so the prefix at a rank says on which side to look on. First where it would stand if prefixes
-// were spread evenly, then by halving: prefixes that are so spread are met in a few looks, and others cost these looks more.
+// The rank of a prefix: prefixes ascend with the rank, so the prefix at a rank says on which side to look on. First at a hint and on from there as if
+// prefixes were spread evenly, then by halving: prefixes that are so spread are met in a few looks, and others cost these looks more.
 ghost use mathlib.Core.Path.{_≡_};
 ghost use Prim.Native.Nat.{_^_, _<_};
 ghost use Rattle.region.specs.Areas.{numbers};
@@ -9,8 +9,11 @@ ghost use Rattle.lens.specs.Search.{Between};
 use super::read;
 use std::num::wrapping_add_usize;
 
-// Looks before halving: prefixes that are spread evenly are met in four or five.
+// Looks before halving: from a good hint two or three are enough, and from any other five where prefixes are spread evenly.
 const LOOKS: usize = 6;
+
+// Strides are whole before this look. From it on they are half as long, else many a search goes to and fro about its place.
+const WHOLE: usize = 3;
 
 // Below this many containers halving is as quick.
 pub(crate) const MANY: usize = 64;
@@ -22,8 +25,16 @@ pub struct Window {
 }
 
 // So many containers as d prefixes in a row would have, of k among 2^bits.
-pub(crate) fn share(d: usize, k: usize, bits: usize) -> usize {
+fn share(d: usize, k: usize, bits: usize) -> usize {
     ((d % 16777216) * (k % 131072)) >> (bits % 64)
+}
+
+// Of how many containers a look counts its stride.
+pub(crate) fn pace_in(look: usize, k: usize) -> usize {
+    if look < WHOLE {
+        return k;
+    }
+    k / 2
 }
 
 // The place g, or the one nearest to it from low to below high.
@@ -48,8 +59,8 @@ pub(crate) fn before(m: usize, d: usize) -> usize {
     0
 }
 
-// A window that holds p's rank, narrowed by a few looks where it would stand if prefixes were spread evenly.
-fn spread(region: &[u64], p: usize, k: usize) -> Window
+// A window that holds p's rank, narrowed by a few looks: at the hint, and then where p would stand if prefixes were spread evenly.
+fn spread(region: &[u64], p: usize, k: usize, hint: usize) -> Window
     requires { ⌜ WellFormed (now region) ⌝ }
     requires { ⌜ p < 2 ^ numbers (now region) .P ⌝ }
     requires { ⌜ k ≡ numbers (now region) .k ⌝ }
@@ -58,7 +69,7 @@ fn spread(region: &[u64], p: usize, k: usize) -> Window
     let bits = read::p(region);
     let mut low: usize = 0;
     let mut high = k;
-    let mut g = share(p, k, bits);
+    let mut g = hint;
     let mut looks: usize = 0;
     while looks < LOOKS {
         if low >= high {
@@ -73,35 +84,35 @@ fn spread(region: &[u64], p: usize, k: usize) -> Window
         }
         if q < p {
             low = m + 1;
-            g = wrapping_add_usize(low, share(p - q, k, bits));
+            g = wrapping_add_usize(low, share(p - q, pace_in(looks, k), bits));
             continue;
         }
         high = m;
-        g = before(m, share(q - p, k, bits));
+        g = before(m, share(q - p, pace_in(looks, k), bits));
     }
     Window { low, high }
 }
 
 // A window that holds p's rank.
-fn first_window(region: &[u64], p: usize) -> Window
+fn first_window(region: &[u64], p: usize, hint: usize) -> Window
     requires { ⌜ WellFormed (now region) ⌝ }
     requires { ⌜ p < 2 ^ numbers (now region) .P ⌝ }
     ensures { λ r. ⌜ Between (now (region .entry)) p (r .low) (r .high) ⌝ }
 {
     let k = read::k(region);
     if k > MANY {
-        return spread(region, p, k);
+        return spread(region, p, k, hint);
     }
     Window { low: 0, high: k }
 }
 
-// How many prefixes below p are set.
-pub fn rank_of(region: &[u64], p: usize) -> usize
+// How many prefixes below p are set. The hint, any number, is where it may stand.
+pub fn rank_of(region: &[u64], p: usize, hint: usize) -> usize
     requires { ⌜ WellFormed (now region) ⌝ }
     requires { ⌜ p < 2 ^ numbers (now region) .P ⌝ }
     ensures { λ r. ⌜ r ≡ rankOf (numbers (now (region .entry))) (seen (numbers (now (region .entry))) (now (region .entry))) p ⌝ }
 {
-    let w = first_window(region, p);
+    let w = first_window(region, p, hint);
     let mut low = w.low;
     let mut high = w.high;
     while low < high {
@@ -116,12 +127,12 @@ pub fn rank_of(region: &[u64], p: usize) -> usize
     low
 }
 
-// The slot of the container with the set prefix p.
-pub fn slot_of(region: &[u64], p: usize) -> usize
+// The slot of the container with the set prefix p. The hint, any number, is a rank where it may stand.
+pub fn slot_of(region: &[u64], p: usize, hint: usize) -> usize
     requires { ⌜ WellFormed (now region) ⌝ }
     requires { ⌜ p < 2 ^ numbers (now region) .P ⌝ }
     requires { ⌜ seen (numbers (now region)) (now region) .bit p ≡ 1 ⌝ }
     ensures { λ r. ⌜ r ≡ seen (numbers (now (region .entry))) (now (region .entry)) .slot (rankOf (numbers (now (region .entry))) (seen (numbers (now (region .entry))) (now (region .entry))) p) ⌝ }
 {
-    read::slot(region, rank_of(region, p))
+    read::slot(region, rank_of(region, p, hint))
 }

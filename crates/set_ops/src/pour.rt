@@ -2,7 +2,7 @@
 ghost use mathlib.Core.Path.{_≡_};
 ghost use mathlib.Core.Logic.{_≢_};
 ghost use mathlib.Core.List.{map};
-ghost use Prim.Native.Nat.{_<_};
+ghost use Prim.Native.Nat.{_^_, _<_, _≤_};
 ghost use lib.ListN.{length, take};
 ghost use Rattle.lists.specs.Lists.{keep};
 ghost use Rattle.model.specs.Words.{joined};
@@ -10,11 +10,15 @@ ghost use Rattle.model.specs.Reading.{walk};
 ghost use Rattle.region.specs.Areas.{numbers};
 ghost use Rattle.region.specs.Seen.{seen};
 ghost use Rattle.region.specs.Read.{suffixes, reading};
-ghost use Rattle.region.specs.WellFormed.{WellFormed};
+ghost use Rattle.region.specs.WellFormed.{Ready, WellFormed};
 ghost use Rattle.trie_walk.specs.Pour.{notBelow};
 ghost use Rattle.set_ops.specs.Poured.{Alike, PouredAs, wanted};
 use crate::take::take_over;
 use lens::read;
+use std::num::wrapping_add_u64;
+
+// Containers whose strips are looked at together.
+const AHEAD: usize = 64;
 
 // Suffixes of a trie that are read off at a time: 8 KB of stack.
 const CHUNK: usize = 1024;
@@ -23,6 +27,7 @@ const CHUNK: usize = 1024;
 fn pour_vector(
     src: &[u64],
     c: usize,
+    hint: usize,
     other: &[u64],
     dest: &mut [u64],
     common: bool,
@@ -40,7 +45,7 @@ fn pour_vector(
     let p = read::prefix(src, c);
     let len = read::size(src, c);
     let start = src[12] as usize + 1024 * c;
-    take_over(dest, other, p, &src[start..start + len], common, own)
+    take_over(dest, other, p, hint, &src[start..start + len], common, own)
 }
 
 // Writes the next suffixes of a trie, those that are not below `from`: at most CHUNK. Answers how many.
@@ -64,6 +69,7 @@ fn next_chunk(src: &[u64], c: usize, from: u64, chunk: &mut [u64]) -> usize
 fn pour_trie(
     src: &[u64],
     c: usize,
+    hint: usize,
     other: &[u64],
     dest: &mut [u64],
     common: bool,
@@ -83,7 +89,7 @@ fn pour_trie(
     let mut from: u64 = 0;
     loop {
         let n = next_chunk(src, c, from, &mut chunk);
-        if !take_over(dest, other, p, &chunk[0..n], common, own) {
+        if !take_over(dest, other, p, hint, &chunk[0..n], common, own) {
             return false;
         }
         if n < CHUNK {
@@ -97,6 +103,7 @@ fn pour_trie(
 fn pour_container(
     src: &[u64],
     c: usize,
+    hint: usize,
     other: &[u64],
     dest: &mut [u64],
     common: bool,
@@ -112,9 +119,53 @@ fn pour_container(
     ensures { λ r. ⌜ PouredAs (keep (wanted (reading (now (other .entry))) common own) (map (joined (numbers (now (src .entry)) .S) (seen (numbers (now (src .entry))) (now (src .entry)) .prefix c)) (suffixes (numbers (now (src .entry))) (seen (numbers (now (src .entry))) (now (src .entry))) c))) (now (dest .entry)) r (now (dest .exit)) ⌝ }
 {
     if read::kind(src, c) == 1 {
-        return pour_vector(src, c, other, dest, common, own);
+        return pour_vector(src, c, hint, other, dest, common, own);
     }
-    pour_trie(src, c, other, dest, common, own)
+    pour_trie(src, c, hint, other, dest, common, own)
+}
+
+// What lies above the 40 bits of the first entry in slot c: nothing, in a container. To ask for it brings its strip near.
+fn touched(set: &[u64], c: usize) -> u64
+    requires { ⌜ Ready (now set) ⌝ }
+    requires { ⌜ c < numbers (now set) .C ⌝ }
+{
+    read::entry(set, c, 0) >> 40
+}
+
+// The same of the container at rank r, if there is one.
+fn touched_at(set: &[u64], r: usize) -> u64
+    requires { ⌜ WellFormed (now set) ⌝ }
+{
+    if r < read::k(set) {
+        return touched(set, read::slot(set, r));
+    }
+    0
+}
+
+// The same of slot r, if there is one: in a set that is being filled, slots are handed out in this order.
+fn touched_in(set: &[u64], r: usize) -> u64
+    requires { ⌜ WellFormed (now set) ⌝ }
+{
+    if r < read::c(set) {
+        return touched(set, r);
+    }
+    0
+}
+
+// Hints of where the prefixes of ranks from `from` on may stand in the other sets: at the same ranks. Strips lie far apart; they are looked at side by side, so that the waits for memory overlap.
+fn look_ahead(src: &[u64], other: &[u64], dest: &[u64], from: usize, hints: &mut [u64; 64])
+    requires { ⌜ WellFormed (now src) ⌝ }
+    requires { ⌜ WellFormed (now other) ⌝ }
+    requires { ⌜ WellFormed (now dest) ⌝ }
+    requires { ⌜ from ≤ 2 ^ 62 ⌝ }
+{
+    let mut i: usize = 0;
+    while i < AHEAD {
+        let r = from + i;
+        let near = wrapping_add_u64(touched_at(src, r), touched_at(other, r));
+        hints[i] = wrapping_add_u64(r as u64, wrapping_add_u64(near, touched_in(dest, r)));
+        i += 1;
+    }
 }
 
 // Inserts the words of src, in walk order, that qualify by whether the other set has them: whether there was room.
@@ -127,10 +178,15 @@ pub(crate) fn pour(src: &[u64], other: &[u64], dest: &mut [u64], common: bool, o
     ensures { λ r. ⌜ PouredAs (keep (wanted (reading (now (other .entry))) common own) (walk (reading (now (src .entry))))) (now (dest .entry)) r (now (dest .exit)) ⌝ }
 {
     let k = read::k(src);
+    let mut hints: [u64; 64] = [0; 64];
     let mut r = 0;
     while r < k {
+        if r % AHEAD == 0 {
+            look_ahead(src, other, dest, r, &mut hints);
+        }
         let c = read::slot(src, r);
-        if !pour_container(src, c, other, dest, common, own) {
+        let hint = hints[r % AHEAD] as usize;
+        if !pour_container(src, c, hint, other, dest, common, own) {
             return false;
         }
         r += 1;

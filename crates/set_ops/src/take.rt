@@ -169,13 +169,13 @@ fn keep_block(
     n
 }
 
-// Inserts one word: whether there was room.
-fn put(dest: &mut [u64], w: u64) -> bool
+// Inserts one word: whether there was room. The hint, any number, is a rank where its container may stand.
+fn put(dest: &mut [u64], w: u64, hint: usize) -> bool
     requires { ⌜ WellFormed (now dest) ⌝ }
     requires { ⌜ w < 2 ^ (numbers (now dest) .P + numbers (now dest) .S) ⌝ }
     ensures { λ r. ⌜ PouredAs (w ∷ []) (now (dest .entry)) r (now (dest .exit)) ⌝ }
 {
-    match insert(dest, w, 0) {
+    match insert(dest, w, hint) {
         Outcome::New => true,
         Outcome::Old => true,
         Outcome::NoRoom => false,
@@ -241,8 +241,15 @@ struct Taken {
     c: usize,
 }
 
-// Inserts the words of a prefix and some suffixes, in order. The first of them all finds the prefix's slot or opens one; the others are told the slot.
-fn put_under(dest: &mut [u64], p: usize, known: bool, c: usize, suffixes: &[u64]) -> Taken
+// Inserts the words of a prefix and some suffixes, in order. The first of them all finds the prefix's slot, from the hint on, or opens one; the others are told the slot.
+fn put_under(
+    dest: &mut [u64],
+    p: usize,
+    hint: usize,
+    known: bool,
+    c: usize,
+    suffixes: &[u64],
+) -> Taken
     requires { ⌜ WellFormed (now dest) ⌝ }
     requires { ⌜ p < 2 ^ numbers (now dest) .P ⌝ }
     requires { ⌜ AllSmall (numbers (now dest) .S) (now suffixes) ⌝ }
@@ -263,14 +270,14 @@ fn put_under(dest: &mut [u64], p: usize, known: bool, c: usize, suffixes: &[u64]
     }
     let bits = read::s(dest);
     let w = joined(p, suffixes[0], bits);
-    if !put(dest, w) {
+    if !put(dest, w, hint) {
         return Taken {
             ok: false,
             known: false,
             c,
         };
     }
-    let at = rank::slot_of(dest, p);
+    let at = rank::slot_of(dest, p, hint);
     let ok = put_all(dest, at, &suffixes[1..]);
     Taken {
         ok,
@@ -297,6 +304,7 @@ fn take_asked(
     dest: &mut [u64],
     other: &[u64],
     p: usize,
+    hint: usize,
     chunk: &[u64],
     common: bool,
     own: bool,
@@ -309,7 +317,7 @@ fn take_asked(
     requires { ⌜ seen (numbers (now other)) (now other) .bit p ≡ 1 ⌝ }
     ensures { λ r. ⌜ PouredAs (keep (isWanted (reading (now (other .entry))) common own) (map (joinedWord (numbers (now (dest .entry)) .S) p) (now (chunk .entry)))) (now (dest .entry)) r (now (dest .exit)) ⌝ }
 {
-    let d = rank::slot_of(other, p);
+    let d = rank::slot_of(other, p, hint);
     let mut kept: [u64; BLOCK] = [0; BLOCK];
     let mut known = false;
     let mut c: usize = 0;
@@ -317,7 +325,7 @@ fn take_asked(
     while i < chunk.len() {
         let end = block_end(i, chunk.len());
         let n = keep_block(other, d, &chunk[i..end], common, own, &mut kept);
-        let taken = put_under(dest, p, known, c, &kept[0..n]);
+        let taken = put_under(dest, p, hint, known, c, &kept[0..n]);
         if !taken.ok {
             return false;
         }
@@ -328,11 +336,12 @@ fn take_asked(
     true
 }
 
-// Inserts the words of a prefix and some suffixes, in order, that qualify.
+// Inserts the words of a prefix and some suffixes, in order, that qualify. The hint, any number, is a rank where the prefix may stand, in both sets.
 pub(crate) fn take_over(
     dest: &mut [u64],
     other: &[u64],
     p: usize,
+    hint: usize,
     chunk: &[u64],
     common: bool,
     own: bool,
@@ -345,11 +354,11 @@ pub(crate) fn take_over(
     ensures { λ r. ⌜ PouredAs (keep (isWanted (reading (now (other .entry))) common own) (map (joinedWord (numbers (now (dest .entry)) .S) p) (now (chunk .entry)))) (now (dest .entry)) r (now (dest .exit)) ⌝ }
 {
     if asked(other, p, common, own) {
-        return take_asked(dest, other, p, chunk, common, own);
+        return take_asked(dest, other, p, hint, chunk, common, own);
     }
     if !own {
         return true;
     }
-    let taken = put_under(dest, p, false, 0, chunk);
+    let taken = put_under(dest, p, hint, false, 0, chunk);
     taken.ok
 }

@@ -58,7 +58,7 @@ pub fn insert(region: &mut [u64], w: u64, hint: usize) -> Outcome
             if read::k(region) >= read::c(region) {
                 return Outcome::NoRoom;
             }
-            open(region, p, s);
+            open(region, p, s, hint);
             Outcome::New
         }
     }

@@ -4,6 +4,7 @@ pub mod Carrying
 pub mod Runs
 pub mod Parts
 pub mod Looking
+pub mod Opening
 pub mod Joining
 pub mod Telling
 pub mod TwoRuns

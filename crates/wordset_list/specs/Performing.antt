@@ -11,6 +11,7 @@ use Rattle.model.specs.Demands.{Kept}
 use Rattle.region.specs.Read.{reading}
 use Rattle.region.specs.WellFormed.{WellFormed}
 use Rattle.promises.specs.Refusals.{Told, when, tell}
+use Rattle.promises.specs.Refusals.Told.{gave}
 use Rattle.promises.specs.Reads.{past, ReadsAs}
 use Rattle.promises.specs.List.{outcome, noRoom, Ran}
 use Rattle.wordset_list.specs.declared.commands.Performed.{Performed}
@@ -52,9 +53,18 @@ pub record RanAs (region codes words answers : List ℕ) (told : Told (Unit {0})
   pub tells : told ≡ tell (noRoom (outcome region codes words)) tt
   pub leaves : Ran region answers (outcome region codes words) region′ answers′
 
+-- a block was tried at once: all of it ran, or nothing is changed
+abbrev pub TriedAs : List ℕ → List ℕ → List ℕ → List ℕ → Bool → List ℕ → List ℕ → Type 0
+TriedAs region codes words answers true region′ answers′ = RanAs region codes words answers (gave tt) region′ answers′
+TriedAs region codes words answers false region′ answers′ = (region′ ≡ region) × (answers′ ≡ answers)
+
 -- code 0
 abbrev pub isLookup : ℕ → Bool
 isLookup c = eqb c 0
+
+-- code 1
+abbrev pub isInsert : ℕ → Bool
+isInsert c = eqb c 1
 
 -- an answer that is not 0
 abbrev pub isYes : ℕ → Bool

@@ -20,6 +20,7 @@ use super::prefix_of;
 use super::suffix_of;
 use lens::find::Place;
 use lens::find::find;
+use lens::hints::any_set;
 use lens::hints::guess;
 use lens::read;
 
@@ -154,10 +155,11 @@ pub fn contains_each(region: &[u64], words: &[u64], hints: &mut [u64; 64], answe
     ensures later { λ _. ⌜ drop (length (now (words .entry))) (now (answers .exit)) ≡ drop (length (now (words .entry))) (now (answers .entry)) ⌝ }
 {
     let n = words.len();
-    if !guess(region, words, hints) {
+    if !any_set(region, words) {
         none_each(n, answers);
         return;
     }
+    guess(region, words, hints);
     let mut roots: [u64; 64] = [0; 64];
     let mut suffixes: [u64; 64] = [0; 64];
     if meet_each(region, words, hints, &mut roots, &mut suffixes, answers) {

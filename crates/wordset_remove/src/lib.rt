@@ -18,8 +18,8 @@ use wordset_lookup::prefix_of;
 use wordset_lookup::suffix_of;
 use wordset_slots::close;
 
-// Takes s out of the vector in slot c, if it is there: whether it was. Taking the last one frees the slot.
-fn from_vector(region: &mut [u64], c: usize, s: u64) -> bool
+// Takes s out of the vector in slot c, if it is there: whether it was. Taking the last one frees the slot, whose rank may be the hint.
+fn from_vector(region: &mut [u64], c: usize, s: u64, hint: usize) -> bool
     requires { ⌜ WellFormed (now region) ⌝ }
     requires { ⌜ c < numbers (now region) .C ⌝ }
     requires { ⌜ seen (numbers (now region)) (now region) .kind c ≡ 1 ⌝ }
@@ -30,7 +30,7 @@ fn from_vector(region: &mut [u64], c: usize, s: u64) -> bool
     match find(&region[start..start + len], s) {
         Found::At(i) => {
             if len == 1 {
-                close(region, c);
+                close(region, c, hint);
             } else {
                 wordset_vector::take(region, c, i);
             }
@@ -66,7 +66,7 @@ pub fn remove(region: &mut [u64], w: u64, hint: usize) -> bool
         Place::At(c) => {
             let s = suffix_of(w, bits);
             if read::kind(region, c) == 1 {
-                return from_vector(region, c, s);
+                return from_vector(region, c, s, hint);
             }
             from_trie(region, c, s)
         }

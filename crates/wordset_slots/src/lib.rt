@@ -14,8 +14,8 @@ use lens::read;
 pub mod shift;
 pub mod write;
 
-// Opens a container for the prefix p, which has none: the next free slot becomes a vector with the one suffix s.
-pub fn open(region: &mut [u64], p: usize, s: u64)
+// Opens a container for the prefix p, which has none: the next free slot becomes a vector with the one suffix s. The hint, any number, is the rank that it may have.
+pub fn open(region: &mut [u64], p: usize, s: u64, hint: usize)
     requires { ⌜ WellFormed (now region) ⌝ }
     requires { ⌜ p < 2 ^ numbers (now region) .P ⌝ }
     requires { ⌜ seen (numbers (now region)) (now region) .bit p ≡ 0 ⌝ }
@@ -26,7 +26,7 @@ pub fn open(region: &mut [u64], p: usize, s: u64)
     let k = read::k(region);
     let slots = read::c(region);
     let count = read::count(region);
-    let at = rank::rank_of(region, p);
+    let at = rank::rank_of(region, p, hint);
     let c = read::free(region, slots - (k + 1));
     write::fill(region, c, p, s);
     write::ranks_up(region, at, k, c);
@@ -34,8 +34,8 @@ pub fn open(region: &mut [u64], p: usize, s: u64)
     write::counts(region, k + 1, count + 1);
 }
 
-// Closes the container in slot c, a vector of one suffix: its prefix is cleared, and the slot is the next to be handed out.
-pub fn close(region: &mut [u64], c: usize)
+// Closes the container in slot c, a vector of one suffix: its prefix is cleared, and the slot is the next to be handed out. The hint, any number, is the rank that it may have.
+pub fn close(region: &mut [u64], c: usize, hint: usize)
     requires { ⌜ WellFormed (now region) ⌝ }
     requires { ⌜ c < numbers (now region) .C ⌝ }
     requires { ⌜ seen (numbers (now region)) (now region) .kind c ≡ 1 ⌝ }
@@ -46,7 +46,7 @@ pub fn close(region: &mut [u64], c: usize)
     let slots = read::c(region);
     let count = read::count(region);
     let p = read::prefix(region, c);
-    let at = rank::rank_of(region, p);
+    let at = rank::rank_of(region, p, hint);
     write::release(region, c, slots - k);
     write::ranks_down(region, at, k);
     write::unmark(region, p);

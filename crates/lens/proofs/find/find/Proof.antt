@@ -26,27 +26,11 @@ returns c =
     let s = b .before .before .before .before .before in
     nowhere (now (s .args .region)) (s .pre .0) (s .args .p) (b .bit .result) (b .bit .ensures) (not-true _ (c .if1 .taken))
 
-k-requires : tie.Need-k-requires
-k-requires c κs = search needs
-
-worth-requires : tie.Need-worth-requires
-worth-requires c κs = search needs
-
-meet-requires-2 : tie.Need-meet-requires-2
-meet-requires-2 c κs = search needs
-
-enum-known-c-2 : tie.Need-enum-known-c-2
-enum-known-c-2 c = search needs
-
-enum-told-2 : tie.Need-enum-told-2
-enum-told-2 c = search needs
-
 slot-of-requires : tie.Need-slot-of-requires
 slot-of-requires c κs =
-    let e = c .before .before .before .before .before in
-    let b = e .before in
+    let b = c .before in
     let s = b .before .before .before .before .before in
-    (s .pre .0, (s .pre .1, eqb-true _ 1 (sym (b .bit .ensures) ∙ not-false _ (e .if1 .left))))
+    (s .pre .0, (s .pre .1, eqb-true _ 1 (sym (b .bit .ensures) ∙ not-false _ (c .if1 .left))))
 
 returns-2 : tie.Need-returns-2
 returns-2 c =
@@ -57,14 +41,7 @@ returns-2 c =
 
 returns-3 : tie.Need-returns-3
 returns-3 c =
-    let met = c .before in
-    let m = met .before .before in
-    let s = m .before .before .before .before .before .before .before .before .before in
-    subst (MetAs (now (s .args .region)) (s .args .p)) (met .c2 .given .1) (m .meet2 .ensures)
-
-returns-4 : tie.Need-returns-4
-returns-4 c =
-    let e = c .before .before .before .before .before .before in
+    let e = c .before in
     (eqb-true _ 1 (sym (e .before .bit .ensures) ∙ not-false _ (e .if1 .left)), c .slot-of .ensures)
 
 pub find-spec : {M : Type 1} → statement M
@@ -76,12 +53,6 @@ find-spec =
     enum-told
     bit-requires
     returns
-    k-requires
-    worth-requires
-    meet-requires-2
-    enum-known-c-2
-    enum-told-2
     slot-of-requires
     returns-2
-    returns-3
-    returns-4)
+    returns-3)

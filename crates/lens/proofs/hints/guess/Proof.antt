@@ -1,9 +1,7 @@
 -- More than 64 containers are in use, so some are. Assumes nothing.
 use Prim.Native.Nat.{_-_}
-use mathlib.Core.Bool.{true≢false}
 use native.Mathlib.Omega.{arith}
 use borrow.Author.Needs.{needs}
-use borrow.Author.Tests.{not-true}
 use Rattle.lens.proofs.hints.guess.Statement.{statement}
 use Rattle.lens.proofs.hints.guess.Tie as tie
 
@@ -17,19 +15,12 @@ k-requires : tie.Need-k-requires Inv-loop μ-loop
 k-requires c κs = search needs
 
 returns : tie.Need-returns Inv-loop μ-loop
-returns c e = absurd (true≢false e)
-
-any-set-requires : tie.Need-any-set-requires Inv-loop μ-loop
-any-set-requires c κs = search needs
-
-returns-2 : tie.Need-returns-2 Inv-loop μ-loop
-returns-2 c e = c .before .any-set .ensures (not-true _ (c .if2 .taken))
+returns c = search needs
 
 ends-requires : tie.Need-ends-requires Inv-loop μ-loop
 ends-requires c κs =
-    let e = c .before .before in
-    let s = e .before .before .before .before in
-    (s .pre .0, (e .before .k .ensures, omega (arith, e .if1 .left)))
+    let s = c .before .before .before .before in
+    (s .pre .0, (c .before .k .ensures, omega (arith, c .if1 .left)))
 
 scale-of-requires : tie.Need-scale-of-requires Inv-loop μ-loop
 scale-of-requires c κs = c .ends .ensures
@@ -48,7 +39,7 @@ scale-of-requires-2 c κs = c .before .before .before .before .before .before .e
 
 look-requires : tie.Need-look-requires Inv-loop μ-loop
 look-requires c κs =
-    let e = c .before .before .before .before .before .before .before .before .before .before .before in
+    let e = c .before .before .before .before .before .before .before .before .before in
     let s = e .before .before .before .before in
     (s .pre .0, (s .pre .1, (e .before .k .ensures, omega (arith, e .if1 .left))))
 
@@ -63,12 +54,12 @@ loop-again c = search needs
 
 fetch-requires : tie.Need-fetch-requires Inv-loop μ-loop
 fetch-requires c κs =
-    let e = c .before .before .before .before .before .before .before .before .before in
+    let e = c .before .before .before .before .before .before .before in
     let s = e .before .before .before .before in
     (s .pre .0, (s .pre .1, (e .before .k .ensures, omega (arith, e .if1 .left))))
 
-returns-3 : tie.Need-returns-3 Inv-loop μ-loop
-returns-3 c e = absurd (true≢false e)
+returns-2 : tie.Need-returns-2 Inv-loop μ-loop
+returns-2 c = search needs
 
 pub guess-spec : {M : Type 1} → statement M
 guess-spec =
@@ -78,8 +69,6 @@ guess-spec =
     μ-loop
     k-requires
     returns
-    any-set-requires
-    returns-2
     ends-requires
     scale-of-requires
     start-requires
@@ -91,4 +80,4 @@ guess-spec =
     loop-less
     loop-again
     fetch-requires
-    returns-3)
+    returns-2)

@@ -7,10 +7,10 @@ use Rattle.lens.proofs.rank.rank_of.Statement.{statement}
 use Rattle.lens.proofs.rank.rank_of.Tie as tie
 
 abbrev Inv-loop : tie.InvT-loop
-Inv-loop region p low₀ high₀ low high = Between region p low high
+Inv-loop region p hint low₀ high₀ low high = Between region p low high
 
 abbrev μ-loop : tie.MeasureT-loop
-μ-loop region p low₀ high₀ low high = high - low
+μ-loop region p hint low₀ high₀ low high = high - low
 
 first-window-requires : tie.Need-first-window-requires Inv-loop μ-loop
 first-window-requires c κs = (c .before .pre .0, c .before .pre .1)

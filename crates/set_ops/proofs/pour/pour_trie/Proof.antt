@@ -17,10 +17,10 @@ use Rattle.set_ops.proofs.pour.pour_trie.Statement.{statement}
 use Rattle.set_ops.proofs.pour.pour_trie.Tie as tie
 
 abbrev Inv-loop : tie.InvT-loop
-Inv-loop src c other dest₀ common own p chunk₀ from₀ dest chunk from = Going (wanted (reading other) common own) (numbers src .S) (seen (numbers src) src .prefix c) (suffixes (numbers src) (seen (numbers src) src) c) dest₀ dest chunk from
+Inv-loop src c hint other dest₀ common own p chunk₀ from₀ dest chunk from = Going (wanted (reading other) common own) (numbers src .S) (seen (numbers src) src .prefix c) (suffixes (numbers src) (seen (numbers src) src) c) dest₀ dest chunk from
 
 abbrev μ-loop : tie.MeasureT-loop
-μ-loop src c other dest₀ common own p chunk₀ from₀ dest chunk from = length (notBelow from (suffixes (numbers src) (seen (numbers src) src) c))
+μ-loop src c hint other dest₀ common own p chunk₀ from₀ dest chunk from = length (notBelow from (suffixes (numbers src) (seen (numbers src) src) c))
 
 prefix-requires : tie.Need-prefix-requires Inv-loop μ-loop
 prefix-requires c κs = let at = c .before .before .before in (at .pre .0 .ready, at .pre .1 .1 .1 .1 .1 .0)

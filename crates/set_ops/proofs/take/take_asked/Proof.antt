@@ -12,10 +12,10 @@ use Rattle.set_ops.proofs.take.take_asked.Statement.{statement}
 use Rattle.set_ops.proofs.take.take_asked.Tie as tie
 
 abbrev Inv-loop : tie.InvT-loop
-Inv-loop dest₀ other p chunk common own d kept₀ known₀ c₀ i₀ dest kept known c i = Asking (wanted (reading other) common own) p chunk dest₀ dest kept known c i
+Inv-loop dest₀ other p hint chunk common own d kept₀ known₀ c₀ i₀ dest kept known c i = Asking (wanted (reading other) common own) p chunk dest₀ dest kept known c i
 
 abbrev μ-loop : tie.MeasureT-loop
-μ-loop dest₀ other p chunk common own d kept₀ known₀ c₀ i₀ dest kept known c i = length chunk - i
+μ-loop dest₀ other p hint chunk common own d kept₀ known₀ c₀ i₀ dest kept known c i = length chunk - i
 
 slot-of-requires : tie.Need-slot-of-requires Inv-loop μ-loop
 slot-of-requires c κs =

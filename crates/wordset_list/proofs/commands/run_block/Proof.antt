@@ -1,4 +1,4 @@
--- A block of lookups by the answers of its words; any other by its commands one after the other. Assumes nothing.
+-- A block of lookups by the answers of its words; any other as it is run where it may change the region. Assumes nothing.
 use mathlib.Core.Path.{sym, subst, _∙_}
 use native.Mathlib.Omega.{arith}
 use lib.ListN.{length}
@@ -35,11 +35,8 @@ returns c =
     subst (λ (t : Told (Unit {0})). RanAs (a .region .now) (a .codes .now) (a .words .now) (a .answers .now) t (a .region .now) (each .last .1 .1 .1 .0)) (sym (up-to-end (length (a .words .now)) (length (a .words .now)) (omega arith)))
     (looked-block (a .region .now) (a .codes .now) (a .words .now) (a .answers .now) (each .last .1 .1 .1 .0) (at .pre .0) (at .pre .1 .0) (at .pre .1 .1 .1 .0) (sym (lookups .ensures) ∙ c .before .before .before .before .before .before .if1 .taken) (each .ensures .0) (each .ensures .1 .0) (each .ensures .1 .1))
 
-guess-requires : tie.Need-guess-requires
-guess-requires c κs = search needs
-
-run-each-requires : tie.Need-run-each-requires
-run-each-requires c κs = search needs
+change-block-requires : tie.Need-change-block-requires
+change-block-requires c κs = search needs
 
 same-length-3 : tie.Need-same-length-3
 same-length-3 c = search needs
@@ -59,8 +56,7 @@ run-block-spec =
     same-length
     same-length-2
     returns
-    guess-requires
-    run-each-requires
+    change-block-requires
     same-length-3
     same-length-4
     returns-2)

@@ -11,11 +11,11 @@ use borrow.Author.Needs.{needs}
 use Rattle.wordset_lookup.proofs.each.contains_each.Statement.{statement}
 use Rattle.wordset_lookup.proofs.each.contains_each.Tie as tie
 
-guess-requires : tie.Need-guess-requires
-guess-requires c κs = let at = c .before .before .before .before in (at .pre .0, at .pre .1 .0)
+any-set-requires : tie.Need-any-set-requires
+any-set-requires c κs = let at = c .before .before .before in at .pre .0
 
 none-each-requires : tie.Need-none-each-requires
-none-each-requires c κs = c .before .before .before .before .before .before .before .pre .1 .1 .0
+none-each-requires c κs = c .before .before .before .before .before .before .pre .1 .1 .0
 
 same-length : tie.Need-same-length
 same-length c = c .before .before .none-each .ensures .long
@@ -24,10 +24,13 @@ returns : tie.Need-returns
 returns c =
     let none = c .before .before in
     let told = none .before .before in
-    let at = told .before .before .before .before .before .before in
+    let at = told .before .before .before .before .before in
     let a = at .args in
     let zeros = none .none-each .ensures in
-    (none-said (now (a .region)) (at .pre .0) (now (a .words)) (at .pre .1 .1 .1) (told .before .guess .ensures (not-true _ (told .if1 .taken))) (now (a .answers)) (none .none-each .last .1 .0) zeros, (zeros .long, left-alone zeros))
+    (none-said (now (a .region)) (at .pre .0) (now (a .words)) (at .pre .1 .1 .1) (told .before .any-set .ensures (not-true _ (told .if1 .taken))) (now (a .answers)) (none .none-each .last .1 .0) zeros, (zeros .long, left-alone zeros))
+
+guess-requires : tie.Need-guess-requires
+guess-requires c κs = let at = c .before .before .before .before .before .before in (at .pre .0, at .pre .1 .0)
 
 slice-aggregate-meet-each : tie.Need-slice-aggregate-meet-each
 slice-aggregate-meet-each c = search needs
@@ -37,7 +40,7 @@ slice-aggregate-meet-each-2 c = search needs
 
 meet-each-requires : tie.Need-meet-each-requires
 meet-each-requires c κs =
-    let at = c .before .before .before .before .before .before .before .before .before .before in
+    let at = c .before .before .before .before .before .before .before .before .before .before .before in
     (at .pre .0, (at .pre .1 .0, (at .pre .1 .1 .0, (refl, (refl, at .pre .1 .1 .1)))))
 
 sub-ask : tie.Need-sub-ask
@@ -61,7 +64,7 @@ part-ask-end-2 c = search needs
 ask-requires : tie.Need-ask-requires
 ask-requires c κs =
     let met = c .before .before .before .before .before .before .before .before .before .before .meet-each in
-    let at = c .before .before .before .before .before .before .before .before .before .before .before .before .before .before .before .before .before .before .before .before .before in
+    let at = c .before .before .before .before .before .before .before .before .before .before .before .before .before .before .before .before .before .before .before .before .before .before in
     let a = at .args in
     let n = length (now (a .words)) in
     let zero : n - 0 ≡ n = omega arith in
@@ -78,7 +81,7 @@ same-length-2 c = search needs
 returns-2 : tie.Need-returns-2
 returns-2 c =
     let met = c .before .before .before .before .before .before .before .before .before .before .before .before .before .meet-each in
-    let at = c .before .before .before .before .before .before .before .before .before .before .before .before .before .before .before .before .before .before .before .before .before .before .before .before in
+    let at = c .before .before .before .before .before .before .before .before .before .before .before .before .before .before .before .before .before .before .before .before .before .before .before .before .before in
     let a = at .args in
     let n = length (now (a .words)) in
     let zero : n - 0 ≡ n = omega arith in
@@ -100,10 +103,11 @@ pub contains-each-spec : {M : Type 1} → statement M
 contains-each-spec =
     tie.close
     (tie.spec
-    guess-requires
+    any-set-requires
     none-each-requires
     same-length
     returns
+    guess-requires
     slice-aggregate-meet-each
     slice-aggregate-meet-each-2
     meet-each-requires

@@ -1,0 +1,6 @@
+pub mod Wedging
+pub mod LiningPut
+pub mod LiningKeys
+pub mod OpeningKeys
+pub mod Opening
+pub mod Filling

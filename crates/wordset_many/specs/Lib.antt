@@ -1,0 +1,3 @@
+pub mod Wedge
+pub mod Line
+pub mod Many
