@@ -18,7 +18,7 @@ use Rattle.wordset_lookup.proofs.Looks.{prefix-small}
 use Rattle.wordset_many.specs.Wedge.{placeIn, Wedged}
 use Rattle.wordset_many.specs.Line.{prefixAt, lined, LinedUp}
 use Rattle.wordset_many.specs.Many.{openedAll}
-use Rattle.wordset_many.proofs.OpeningKeys.{Openable, next-small, places-fit, places-rise}
+use Rattle.wordset_many.proofs.OpeningKeys.{Openable, slot-small, places-fit, places-rise}
 use Rattle.wordset_many.proofs.Opening.{Going, start, step, finish}
 
 -- what open_all is given
@@ -85,7 +85,7 @@ module _ {l words : List ℕ} {n : ℕ} (q : Openable l words n) where
 
         pub fill-ready : Ready m × (c < numbers m .C)
         fill-ready =
-            let z : c < numbers l .C = subst (λ (d : ℕ). d < numbers l .C) (sym slot-is) (next-small q i below) in
+            let z : c < numbers l .C = subst (λ (d : ℕ). d < numbers l .C) (sym slot-is) (slot-small q i below) in
             (ready, omega (arith, z, C-same))
 
         module _ (s : ℕ) (e : s ≡ suffixOf bits (getD words i 0)) {m₁ : List ℕ} (b : Became (filled c p s) m m₁) where

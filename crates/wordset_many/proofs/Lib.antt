@@ -1,3 +1,4 @@
+pub mod Keys
 pub mod Wedging
 pub mod LiningPut
 pub mod LiningKeys

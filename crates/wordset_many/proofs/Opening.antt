@@ -38,8 +38,9 @@ use Rattle.wordset_slots.proofs.Ending.{ends}
 use Rattle.wordset_many.specs.Wedge.{placeIn, slotIn, wedged, wedgedAll, Wedged}
 use Rattle.wordset_many.specs.Line.{prefixAt, keyAt, lined}
 use Rattle.wordset_many.specs.Many.{opened, openedAll}
+use Rattle.wordset_many.proofs.Keys.{rising}
 use Rattle.wordset_many.proofs.Wedging.{less, wedge-put}
-use Rattle.wordset_many.proofs.OpeningKeys.{lower, Named, named, rising, ascend-at, Openable, prefix-low, next-small, place-is, slot-is, key-new, lined-long, less-lined, place-mono}
+use Rattle.wordset_many.proofs.OpeningKeys.{lower, Named, named, ascend-at, Openable, low, slot-small, place-is, slot-is, key-new, lined-long, less-lined, place-mono}
 
 -- A table with one more slot
 
@@ -235,9 +236,9 @@ module _ {l words : List ℕ} {n : ℕ} (o : Openable l words n) where
     step-opens =
         let sz : Sized g (partsOf g m) = sized (at .held) in
         view-opens (grownBy i g) (partsOf g m) f (at .shape) (sz .records) (sz .entries) c p s (bitmap g m₂) f′
-        (subst (λ (d : ℕ). d < g .C) (sym ec) (next-small o i h)) (omega (arith, o .room))
+        (subst (λ (d : ℕ). d < g .C) (sym ec) (slot-small o i h)) (omega (arith, o .room))
         (ap (λ (z : List ℕ). getD z (g .C - suc (g .k + i)) 0) (at .stack-stays) ∙ sym ec)
-        (prefix-low o i h) (still-clear i h at) (suffix-lt (g .S) (getD words i 0)) made wedge
+        (low o i h) (still-clear i h at) (suffix-lt (g .S) (getD words i 0)) made wedge
 
     one-up : (k : ℕ) → suc (k + i) ≡ k + suc i
     one-up k = omega arith
