@@ -6,7 +6,7 @@ use native.Mathlib.Omega.{arith}
 use lib.ListN.{length, take, getD, set, length-take}
 use lib.Seq.{take-all, take-take}
 use Rattle.model.specs.Words.{prefixOf, suffixOf}
-use Rattle.region.specs.Areas.{Numbers, numbers, stack}
+use Rattle.region.specs.Areas.{Numbers, numbers}
 use Rattle.region.specs.Seen.{seen}
 use Rattle.region.specs.Read.{reading}
 use Rattle.region.specs.WellFormed.{Ready, WellFormed}
@@ -19,7 +19,7 @@ use Rattle.wordset_many.specs.Wedge.{placeIn, Wedged}
 use Rattle.wordset_many.specs.Line.{prefixAt, lined, LinedUp}
 use Rattle.wordset_many.specs.Many.{openedAll}
 use Rattle.wordset_many.proofs.OpeningKeys.{Openable, slot-small, places-fit, places-rise}
-use Rattle.wordset_many.proofs.Opening.{Going, start, step, finish}
+use Rattle.wordset_many.proofs.Opening.{Going, going-free, start, step, finish}
 
 -- what open_all is given
 pub openable : {l words : List ℕ} {n : ℕ} {keys : List ℕ} → WellFormed l → numbers l .k + n ≤ numbers l .C
@@ -62,13 +62,6 @@ module _ {l words : List ℕ} {n : ℕ} (q : Openable l words n) where
     C-same : numbers m .C ≡ numbers l .C
     C-same = ap (λ (g : Numbers). g .C) (w .going .held .numbers-are)
 
-    -- the free stack is as it was
-    free-same : (j : ℕ) → seen (numbers m) m .free j ≡ seen (numbers l) l .free j
-    unfolding seen
-    free-same j =
-        let e : getD (stack (numbers l) m) j 0 ≡ getD (stack (numbers l) l) j 0 = ap (λ (s : List ℕ). getD s j 0) (w .going .stack-stays) in
-        ap (λ (g : Numbers). getD (stack g m) j 0) (w .going .held .numbers-are) ∙ e
-
     -- the turn of word i
     module _ (below : i < n) (k slots bits : ℕ) (ek : k ≡ numbers l .k) (es : slots ≡ numbers l .C) (eb : bits ≡ numbers l .S) where
       pub free-ready : Ready m × (slots - (k + i + 1) < numbers m .C)
@@ -78,7 +71,7 @@ module _ {l words : List ℕ} {n : ℕ} (q : Openable l words n) where
         slot-is : c ≡ seen (numbers l) l .free (numbers l .C - suc (numbers l .k + i))
         slot-is =
             let z : slots - (k + i + 1) ≡ numbers l .C - suc (numbers l .k + i) = omega (arith, ek, es, q .room) in
-            ec ∙ free-same (slots - (k + i + 1)) ∙ ap (seen (numbers l) l .free) z
+            ec ∙ going-free (w .going) (slots - (k + i + 1)) ∙ ap (seen (numbers l) l .free) z
 
         prefix-is : p ≡ prefixAt l words i
         prefix-is = ep ∙ ap (λ (z : ℕ). prefixOf z (getD words i 0)) eb

@@ -141,9 +141,6 @@ pub record Going (l words : List ℕ) (i : ℕ) (m : List ℕ) : Type 0 where
 
 -- what the code needs of a region on the way
 module _ {l words : List ℕ} {i : ℕ} {m : List ℕ} (at : Going l words i m) where
-  pub going-numbers : numbers m ≡ numbers l
-  going-numbers = at .held .numbers-are
-
   -- the free stack still says the same
   pub going-free : (j : ℕ) → seen (numbers m) m .free j ≡ seen (numbers l) l .free j
   unfolding seen
