@@ -4,7 +4,10 @@
 
    A slice is a pointer and a length, in words or bytes. What C cannot be stopped from doing: a slice that an entry writes
    (region of make and list, answers, output, destination) must not overlap any other slice of the call. Slices that are
-   only read may be one and the same. */
+   only read may be one and the same.
+
+   A region may begin at any word. The quickest place is one where its nodes begin at a cache line, that is, where
+   region + region[14] is a multiple of 64 bytes: then no node has the eight words that are looked at together on two. */
 #ifndef BROTHOWL_H
 #define BROTHOWL_H
 

@@ -18,6 +18,7 @@
 //! | module | what |
 //! |---|---|
 //! | [`set`] | a set over owned or lent memory: insert, remove, contains, lists, iterator, operators |
+//! | [`memory`] | the memory that a set owns |
 //! | [`key`] | preview keys: pack and unpack |
 //! | [`region`] | the entries as they stand, over slices |
 //! | [`refusal`] | the refusals, by name |
@@ -26,11 +27,13 @@
 
 mod ffi;
 pub mod key;
+pub mod memory;
 pub mod refusal;
 pub mod region;
 pub mod set;
 
 pub use key::{Card, Fields, Folder, Frame, Key, Kind, Rollover};
+pub use memory::Memory;
 pub use refusal::{Field, Refusal};
 pub use region::{all_members, check, combine, make, run, walk, Numbers, Operation};
 pub use set::{Command, Iter, Set, Stopped};

@@ -38,6 +38,11 @@ impl Numbers {
         let words = 16 + bitmap + (1 + 1 + 4 + 1024) * self.containers + (1 + 264) * self.nodes;
         usize::try_from(words).ok()
     }
+
+    /// How many of them stand before the nodes, which are the last of a region.
+    pub(crate) fn words_before_nodes(self) -> Option<usize> {
+        Some(self.words()? - 264 * self.nodes as usize)
+    }
 }
 
 /// Makes a region in a lent slice: the fresh image up to its length; the words past it stay.

@@ -1,4 +1,5 @@
 //! A set over a region that it owns, or over one that is lent to it.
+use crate::memory::Memory;
 use crate::refusal::Refusal;
 use crate::region::{self, Numbers, Operation};
 use std::ops::{BitAnd, BitOr, BitXor, Sub};
@@ -62,7 +63,7 @@ impl From<Stopped> for Refusal {
     }
 }
 
-/// A set of words. `R` is the memory: a `Vec<u64>` that it owns, or a slice that is lent to it.
+/// A set of words. `R` is the memory: [`Memory`] or a `Vec<u64>` that it owns, or a slice that is lent to it.
 ///
 /// Every call goes through an exported entry, and every entry checks the region first: that is what makes a damaged
 /// region a refusal and not a wrong answer. So many words are best passed in one list ([`Set::run`], [`Set::insert_all`]).
@@ -79,14 +80,14 @@ impl From<Stopped> for Refusal {
 /// # Ok::<(), brothowl::Refusal>(())
 /// ```
 #[derive(Debug, Clone)]
-pub struct Set<R = Vec<u64>> {
+pub struct Set<R = Memory> {
     region: R,
 }
 
-impl Set<Vec<u64>> {
+impl Set<Memory> {
     /// An empty set in memory of its own.
     pub fn new(numbers: Numbers) -> Result<Set, Refusal> {
-        let mut region = vec![0; numbers.words().ok_or(Refusal::OutOfRange)?];
+        let mut region = Memory::for_region(numbers).ok_or(Refusal::OutOfRange)?;
         region::make(&mut region, numbers)?;
         Ok(Set { region })
     }

@@ -17,3 +17,4 @@ pub mod TakeRest
 pub mod TakeVector
 pub mod TakeWhole
 pub mod TakeBlocks
+pub mod TakeTrie

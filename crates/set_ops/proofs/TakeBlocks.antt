@@ -22,7 +22,8 @@ use Rattle.set_ops.proofs.TakeSlots.{set-bears}
 use Rattle.set_ops.proofs.TakeLooks.{keep-small, picks, picks-wanted, words-all, words-kept, words-none}
 use Rattle.set_ops.proofs.TakeWhole.{behind-small}
 
-front-small : (S : ℕ) (ss : List ℕ) (n : ℕ) → AllSmall S ss → AllSmall S (take n ss)
+-- the first suffixes are small
+pub front-small : (S : ℕ) (ss : List ℕ) (n : ℕ) → AllSmall S ss → AllSmall S (take n ss)
 front-small S ss n h i l =
     let e = length-take n ss in
     let u : i < n = omega arith in

@@ -216,7 +216,20 @@ fn put_each(dest: &mut [u64], c: usize, suffixes: &[u64]) -> bool
     true
 }
 
-// Inserts the words of slot c's prefix and some suffixes, in order: the slot stays the prefix's. A vector with room for all takes them at once.
+// Inserts the words of slot c's prefix, a trie's, and some suffixes, in order: the slot stays the prefix's.
+fn put_trie(dest: &mut [u64], c: usize, suffixes: &[u64]) -> bool
+    requires { ⌜ WellFormed (now dest) ⌝ }
+    requires { ⌜ c < numbers (now dest) .C ⌝ }
+    requires { ⌜ seen (numbers (now dest)) (now dest) .kind c ≡ 2 ⌝ }
+    requires { ⌜ AllSmall (numbers (now dest) .S) (now suffixes) ⌝ }
+    ensures poured { λ r. ⌜ PouredAs (map (joinedWord (numbers (now (dest .entry)) .S) (seen (numbers (now (dest .entry))) (now (dest .entry)) .prefix c)) (now (suffixes .entry))) (now (dest .entry)) r (now (dest .exit)) ⌝ }
+    ensures stays { λ r. ⌜ (r ≡ true → Bears (numbers (now (dest .exit))) (seen (numbers (now (dest .exit))) (now (dest .exit))) (seen (numbers (now (dest .entry))) (now (dest .entry)) .prefix c) c) ⌝ }
+{
+    let done = wordset_trie::put_each(dest, c, suffixes);
+    done == suffixes.len()
+}
+
+// Inserts the words of slot c's prefix and some suffixes, in order: the slot stays the prefix's. A trie takes them at once, and so does a vector with room for all.
 fn put_all(dest: &mut [u64], c: usize, suffixes: &[u64]) -> bool
     requires { ⌜ WellFormed (now dest) ⌝ }
     requires { ⌜ c < numbers (now dest) .C ⌝ }
@@ -225,11 +238,12 @@ fn put_all(dest: &mut [u64], c: usize, suffixes: &[u64]) -> bool
     ensures poured { λ r. ⌜ PouredAs (map (joinedWord (numbers (now (dest .entry)) .S) (seen (numbers (now (dest .entry))) (now (dest .entry)) .prefix c)) (now (suffixes .entry))) (now (dest .entry)) r (now (dest .exit)) ⌝ }
     ensures stays { λ r. ⌜ (r ≡ true → Bears (numbers (now (dest .exit))) (seen (numbers (now (dest .exit))) (now (dest .exit))) (seen (numbers (now (dest .entry))) (now (dest .entry)) .prefix c) c) ⌝ }
 {
-    if read::kind(dest, c) == 1 {
-        if read::size(dest, c) + suffixes.len() <= TrieVec::THRESHOLD {
-            push_all(dest, c, suffixes);
-            return true;
-        }
+    if read::kind(dest, c) == 2 {
+        return put_trie(dest, c, suffixes);
+    }
+    if read::size(dest, c) + suffixes.len() <= TrieVec::THRESHOLD {
+        push_all(dest, c, suffixes);
+        return true;
     }
     put_each(dest, c, suffixes)
 }

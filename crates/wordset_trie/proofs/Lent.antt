@@ -1,13 +1,13 @@
 -- The arena of a region, lent and given back: what a trie holds there is what its slot holds, and with another arena, length, nodes in use and member count the region reads as before but for the suffixes under the trie's prefix. Assumes nothing.
 use Prim.Native.Nat.{ℕ, _+_, _-_, _*_, _^_, _<_, _≤_}
-use mathlib.Core.Path.{_≡_, sym, ap, _∙_, subst}
+use mathlib.Core.Path.{_≡_, refl, sym, ap, _∙_, subst}
 use mathlib.Core.Bool.{true, not, _&&_}
 use mathlib.Core.List.{List, _++_}
 use native.Mathlib.Omega.{arith}
 use lib.Dec.{eqb, leb}
 use lib.Pow.{pow-mono}
 use lib.ListN.{length, take, drop, getD}
-use borrow.Author.Tests.{leb-true, eqb-true}
+use borrow.Author.Tests.{leb-true, eqb-true, eq-eqb, ne-eqb}
 use borrow.Rule.Slice.PartMut.{putMid, midOf, put-same}
 use Rattle.lists.specs.Lists.{mem, put, without, Ascending}
 use Rattle.lists.proofs.Laws.{and-both, or-cases, mem-put, mem-keep, ascending-put, ascending-keep, ascending-distinct}
@@ -31,7 +31,7 @@ use Rattle.arena.specs.Arena.{nodesIn, Root, Arena, Became}
 use Rattle.lens.specs.Parts.{Parts, partsOf, seenIn, withArena}
 use Rattle.lens.specs.Holding.{Holding}
 use Rattle.lens.proofs.Holding.{begin, sized, well-formed, reads-as, lent-arena, give-arena}
-use Rattle.steps.specs.Steps.{counted, Refilled}
+use Rattle.steps.specs.Steps.{counted, Holds, vector, trie, Refilled}
 use Rattle.steps.proofs.Refilling.{refill-shape, refill-reads}
 use Rattle.wordset_vector.proofs.Counting.{count-covers}
 use Rattle.wordset_trie.specs.Settled.{Settled}
@@ -59,6 +59,16 @@ good-without S s ss a below = record {
   distinct = ascending-distinct (without s ss) (ascending-keep (λ y. not (eqb s y)) ss a);
   ordered = λ e. ascending-keep (λ y. not (eqb s y)) ss a;
 }
+
+-- the suffixes of a slot are what it holds, whatever the counts
+same-suffixes : (g : Numbers) (w : Seen) (c k used count : ℕ) → suffixes (counted g k used count) w c ≡ suffixes g w c
+unfolding suffixes
+same-suffixes g w c k used count = refl
+
+held-suffixes : (g : Numbers) (w : Seen) (c : ℕ) (ss : List ℕ) → Holds g w c ss → suffixes g w c ≡ ss
+unfolding suffixes
+held-suffixes g w c ss (vector e x q) = rw (ne-eqb (w .kind c) 2 (λ z. omega arith)) q
+held-suffixes g w c ss (trie e x q) = rw (eq-eqb (w .kind c) 2 e) q
 
 module _ (l : List ℕ) (wf : WellFormed l) (c : ℕ) (h : c < numbers l .C) (k : seen (numbers l) l .kind c ≡ 2) where
   abbrev g : Numbers
@@ -121,6 +131,13 @@ module _ (l : List ℕ) (wf : WellFormed l) (c : ℕ) (h : c < numbers l .C) (k 
       let p : 2 ^ g .S ≤ 2 ^ (8 * b) = pow-mono (omega arith) in
       (lent-ready .0, (subst (λ (n : ℕ). Root (nodesIn (g .N) (lentOf l)) (g .N) n) (sym e) (lent-ready .1), (omega (arith, suffix-bits .0), (omega (arith, suffix-bits .1), omega arith))))
 
+  -- what inserts of several suffixes ask
+  pub asked-each : (root : ℕ) (ss : List ℕ) → root ≡ v .link c → ((i : ℕ) → i < length ss → getD ss i 0 < 2 ^ g .S)
+      → Arena (g .N) b (g .used) (lentOf l) × (Root (nodesIn (g .N) (lentOf l)) (g .N) root × ((1 ≤ b) × ((b ≤ 5) × ((i : ℕ) → i < length ss → getD ss i 0 < 2 ^ (8 * b)))))
+  asked-each root ss e small =
+      let p : 2 ^ g .S ≤ 2 ^ (8 * b) = pow-mono (omega arith) in
+      (lent-ready .0, (subst (λ (n : ℕ). Root (nodesIn (g .N) (lentOf l)) (g .N) n) (sym e) (lent-ready .1), (omega (arith, suffix-bits .0), (omega (arith, suffix-bits .1), λ i j. omega (arith, p, small i j)))))
+
   given : (new : List ℕ) → length new ≡ g .N + nodeWords * g .N → Holding g (withArena (take (g .N) new) (drop (g .N) new) (partsOf g l)) l (withLent l new)
   given new long = give-arena (begin l (wf .ready)) (getD l 13 0) (getD l 15 0) new (wf .ready .header .node-stack) (wf .ready .header .total-length) long
 
@@ -148,3 +165,21 @@ module _ (l : List ℕ) (wf : WellFormed l) (c : ℕ) (h : c < numbers l .C) (k 
           reads = reads-as settled ∙ refill-reads g v (wf .shape) (seen-bits g l) w c ss used′ m r;
           past-stays = settled .same-rest;
         }
+
+    -- the numbers afterwards
+    pub numbers-after : {n m : ℕ} {l′ : List ℕ} → Settled c n used′ m (withLent l new) l′ → numbers l′ ≡ counted g (g .k) used′ m
+    numbers-after s = s .holds g (withArena (take (g .N) new) (drop (g .N) new) (partsOf g l)) l (given new (y .arena .tries .long)) h .numbers-are
+
+    -- what slot c holds afterwards
+    pub held-after : {n m : ℕ} {l′ : List ℕ} → threshold < n → n ≡ length ss → GoodSuffixes (g .S) ss → Settled c n used′ m (withLent l new) l′ → suffixes (numbers l′) (seen (numbers l′) l′) c ≡ ss
+    unfolding seen
+    held-after {n} {m} {l′} many true-size good s =
+        let x : Parts = partsOf g l in
+        let w : Seen = seenIn (refilledParts g x c new n) in
+        let settled : Holding (counted g (g .k) used′ m) (refilledParts g x c new n) l l′ = s .holds g (withArena (take (g .N) new) (drop (g .N) new) x) l (given new (y .arena .tries .long)) h in
+        let z : Became (g .N) b (g .used) (x .nodeStack ++ x .nodes) (v .link c) ss used′ new = subst (λ (a : List ℕ). Became (g .N) b (g .used) a (v .link c) ss used′ new) lent-is y in
+        let r : Refilled g v w c ss used′ = refilled g x (wf .shape) (sized (begin l (wf .ready))) c h k new ss used′ n z many true-size good in
+        ap (λ (a : Numbers). suffixes a (seenIn (partsOf a l′)) c) (settled .numbers-are)
+        ∙ ap (λ (a : Parts). suffixes (counted g (g .k) used′ m) (seenIn a) c) (settled .parts-are)
+        ∙ same-suffixes g w c (g .k) used′ m
+        ∙ held-suffixes g w c ss (r .holds)

@@ -2,4 +2,5 @@ pub mod Settling
 pub mod Arenas
 pub mod Lent
 pub mod Putting
+pub mod Each
 pub mod Taking

@@ -1,8 +1,9 @@
 -- What the answers of a put and a take say. l is the region at entry and l′ at exit; the suffixes are those of slot c at entry. Assumes nothing.
-use Prim.Native.Nat.{ℕ, _+_, _<_}
+use Prim.Native.Nat.{ℕ, _+_, _<_, _≤_}
 use mathlib.Core.Path.{_≡_}
 use mathlib.Core.Bool.{Bool, true, false}
 use mathlib.Core.List.{List}
+use lib.ListN.{length, take, getD}
 use Rattle.lists.specs.Lists.{mem, put, without}
 use Rattle.model.specs.Words.{bytesOf}
 use Rattle.model.specs.Room.{trieNodes}
@@ -11,6 +12,7 @@ use Rattle.region.specs.Areas.{numbers}
 use Rattle.region.specs.Seen.{seen}
 use Rattle.region.specs.Read.{suffixes, reading}
 use Rattle.promises.specs.Reads.{ReadsAs}
+use Rattle.trie_each.specs.Each.{putEach}
 use Rattle.wordset_trie.specs.declared.Outcome.{Outcome}
 use Rattle.wordset_trie.specs.declared.Outcome.the-variants.{New, Old, NoRoom}
 
@@ -28,6 +30,12 @@ PutAs c s l New l′ = (mem s (heldIn c l) ≡ false) × ReadsWith c (put s (hel
 PutAs c s l Old l′ = (mem s (heldIn c l) ≡ true) × (l′ ≡ l)
 PutAs c s l NoRoom l′ =
     (mem s (heldIn c l) ≡ false) × (numbers l .N + trieNodes (bytesOf (numbers l .S)) (heldIn c l) < numbers l .used + trieNodes (bytesOf (numbers l .S)) (put s (heldIn c l))) × (l′ ≡ l)
+
+-- the first `done` suffixes are members now; the next one, if there is one, finds no room
+pub record PutEach (c : ℕ) (ss l : List ℕ) (done : ℕ) (l′ : List ℕ) : Type 0 where
+  pub in-range : done ≤ length ss
+  pub reads : ReadsWith c (putEach (heldIn c l) (take done ss)) l l′
+  pub full : done < length ss → PutAs c (getD ss done 0) l′ NoRoom l′
 
 -- s was a member and is none now; or it was none, and nothing is changed
 abbrev pub TakenAs : ℕ → ℕ → List ℕ → Bool → List ℕ → Type 0

@@ -1,17 +1,19 @@
 // Changes of a trie in a region: node stack and nodes are lent as one writable arena, then its length, the nodes in use and the member count are stored.
 ghost use mathlib.Core.Path.{_≡_};
-ghost use Prim.Native.Nat.{_+_, _^_, _<_};
+ghost use Prim.Native.Nat.{ℕ, _+_, _^_, _<_};
+ghost use lib.ListN.{length, getD};
 ghost use Rattle.model.specs.Room.{threshold};
 ghost use Rattle.region.specs.Areas.{numbers};
 ghost use Rattle.region.specs.Seen.{seen};
 ghost use Rattle.region.specs.WellFormed.{Ready, WellFormed};
 ghost use Rattle.wordset_trie.specs.Settled.{Settled};
-ghost use Rattle.wordset_trie.specs.Answers.{PutAs, TakenAs};
+ghost use Rattle.wordset_trie.specs.Answers.{PutAs, PutEach, TakenAs};
 use lens::read;
 use trie::Inserted;
 use trie::Removed;
 use trie::insert;
 use trie::remove;
+use trie_each::insert_each;
 
 // What a put did.
 pub enum Outcome {
@@ -85,4 +87,31 @@ pub fn take(region: &mut [u64], c: usize, s: u64) -> bool
         Removed::Last(_) => true, // not with so many members
         Removed::Absent => false,
     }
+}
+
+// Puts suffixes into the trie in slot c, in order, until one finds no room: the arena is lent once and the counts stored once. Answers how many were put.
+pub fn put_each(region: &mut [u64], c: usize, suffixes: &[u64]) -> usize
+    requires { ⌜ WellFormed (now region) ⌝ }
+    requires { ⌜ c < numbers (now region) .C ⌝ }
+    requires { ⌜ seen (numbers (now region)) (now region) .kind c ≡ 2 ⌝ }
+    requires { ⌜ ((i : ℕ) → i < length (now suffixes) → getD (now suffixes) i 0 < 2 ^ numbers (now region) .S) ⌝ }
+    ensures { λ r. ⌜ PutEach c (now (suffixes .entry)) (now (region .entry)) r (now (region .exit)) ⌝ }
+{
+    let root = read::link(region, c);
+    let len = read::size(region, c);
+    let count = region[7];
+    let slots = region[4] as usize;
+    let used = region[6] as usize;
+    let b = (region[2] as usize + 7) / 8;
+    let start = region[13] as usize;
+    let end = region[15] as usize;
+    let many = insert_each(&mut region[start..end], slots, used, b, root, suffixes);
+    settle(
+        region,
+        c,
+        len + many.added,
+        many.used,
+        count + many.added as u64,
+    );
+    many.done
 }
