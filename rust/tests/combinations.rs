@@ -29,14 +29,14 @@ fn filled(numbers: Numbers, words: &[u64]) -> (Vec<u64>, Model) {
 fn all_four(a: &(Vec<u64>, Model), b: &(Vec<u64>, Model), random: &mut Numbers64) {
     let Numbers { p, s, .. } = a.1.numbers;
     for (code, operation) in ALL.into_iter().enumerate() {
-        let wide = Model::combine(code as u64, &a.1, &b.1, Numbers { p, s, containers: 64, nodes: 5000 }).unwrap();
+        let wide = Model::combine(code as u64, &a.1, &b.1, Numbers { p, s, containers: 64, nodes: 40000 }).unwrap();
         let (k, n) = ((wide.containers.len() as u64).max(1), wide.nodes());
         let mut sizes = vec![(k + 2, n + 5), (k, n)];
         if k > 1 {
             sizes.push((k - 1, n));
         }
         if n > 0 {
-            sizes.push((k, n - 1));
+            sizes.extend([(k, n - 1), (k, n - n.min(40)), (k, n / 2)]);
         }
         for (containers, nodes) in sizes {
             let numbers = Numbers { p, s, containers, nodes };
@@ -89,6 +89,28 @@ fn tries_and_vectors() {
         let b = filled(Numbers { p: 2, s, containers: 4, nodes: 1200 }, &y);
         all_four(&a, &b, &mut random);
         all_four(&b, &b, &mut random);
+    }
+}
+
+/// Tries whose suffixes differ from the one before in the last byte, in the last two, or in more: a trie takes many at a time.
+#[test]
+fn neighbours_in_tries() {
+    let mut random = Numbers64(10);
+    for s in [11, 17, 28, 40] {
+        let words = |random: &mut Numbers64| -> Vec<u64> {
+            let mut v = Vec::new();
+            while v.len() < 1700 {
+                let (at, step) = (random.below(1 << s), 1 << [0, 5, 8, 13][random.below(4) as usize]);
+                v.extend((0..random.below(30)).map(|i| (1 << s) + (at + i * step) % (1 << s)));
+            }
+            v
+        };
+        let x = words(&mut random);
+        // half of the one is in the other
+        let y: Vec<u64> = x.iter().copied().step_by(2).chain(words(&mut random)).collect();
+        let a = filled(Numbers { p: 2, s, containers: 2, nodes: 9000 }, &x);
+        let b = filled(Numbers { p: 2, s, containers: 2, nodes: 9000 }, &y);
+        all_four(&a, &b, &mut random);
     }
 }
 

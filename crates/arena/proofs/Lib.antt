@@ -6,3 +6,4 @@ pub mod Stacks
 pub mod Hanging
 pub mod Unhanging
 pub mod Fullness
+pub mod Becoming

@@ -1,7 +1,7 @@
 -- Under the only root hang all nodes: its trie has as many suffixes as the maps of the last level have bits.
 -- The idea: each suffix leads to one bit of the last level, and back links lead from each such bit up to the root, by one string. Assumes nothing.
 use Prim.Native.Nat.{ℕ, zero, suc, _+_, _*_, _/_, _%_, _^_, _<_}
-use mathlib.Core.Path.{_≡_, refl, sym, ap, ap₂, _∙_, subst}
+use mathlib.Core.Path.{_≡_, sym, ap, ap₂, _∙_, subst}
 use mathlib.Core.Bool.{Bool, true, _&&_, cond}
 use mathlib.Core.List.{List}
 use native.Mathlib.Omega.{arith}
@@ -19,15 +19,10 @@ use Rattle.region.specs.Nodes.{Nodes}
 use Rattle.region.specs.Tries.{byteOf, members, follow, Path}
 use Rattle.region.specs.Linked.{Wf}
 use Rattle.region.proofs.Bytes.{byte-lt, bytes-inj, more-old, more-new, more-small}
-use Rattle.region.proofs.Paths.{At, reach, meet, more-path, Led, led}
+use Rattle.region.proofs.Paths.{At, reach, meet, more-path, follow-ext, Led, led}
 use Rattle.region.proofs.Listing.{members-ascend, path-member, member-path, member-small}
 use Rattle.arena.proofs.Stays.{below-suc}
 use Rattle.arena_check.specs.Checks.{setBits, rootsIn, lastBits}
-
--- only the bytes passed matter
-follow-same : (v : Nodes) (n : ℕ) (f g : ℕ → ℕ) (k : ℕ) → ((i : ℕ) → i < k → f i ≡ g i) → follow v n f k ≡ follow v n g k
-follow-same v n f g zero h = refl
-follow-same v n f g (suc k) h = ap₂ (v .child) (follow-same v n f g k (λ i l. h i (omega arith))) (h k (omega arith))
 
 -- of two roots the count would be 2
 module _ (v : Nodes) (N : ℕ) (e : rootsIn v N ≡ 1) where
@@ -112,7 +107,7 @@ module _ (v : Nodes) (N d r : ℕ) (bits : (n x : ℕ) → v .bit n x < 2) (wf :
       let w : l .root ≡ r = only (l .root) (l .is-root) in
       let s : ℕ = l .lead * 256 + x in
       let p : Path v r (byteOf b s) b = subst (λ (m : ℕ). Path v m (byteOf b s) b) w (more-path v (l .root) d (l .lead) x hx (l .path) (ap (λ (m : ℕ). v .bit m x) (l .there) ∙ e)) in
-      let en : follow v r (byteOf b s) d ≡ n = sym (follow-same v r (byteOf d (l .lead)) (byteOf b s) d (more-old d (l .lead) x hx)) ∙ ap (λ (m : ℕ). follow v m (byteOf d (l .lead)) d) (sym w) ∙ l .there in
+      let en : follow v r (byteOf b s) d ≡ n = sym (follow-ext v r (byteOf d (l .lead)) (byteOf b s) d (more-old d (l .lead) x hx)) ∙ ap (λ (m : ℕ). follow v m (byteOf d (l .lead)) d) (sym w) ∙ l .there in
       record {
         from = s;
         there = path-member v b r s (more-small d (l .lead) x hx (l .small)) p;

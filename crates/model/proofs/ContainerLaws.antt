@@ -206,11 +206,15 @@ length-containers cs = sym (length-map cs (λ c. c .prefix))
 pub length-put-new : (p : ℕ) (xs : List ℕ) → Ascending xs → mem p xs ≡ false → length (put p xs) ≡ suc (length xs)
 length-put-new p xs a m = length-same (put p xs) (p ∷ xs) (ascending-distinct (put p xs) (ascending-put p xs a)) (m, ascending-distinct xs a) (λ z. mem-put z p xs)
 
-pub length-put-old : (p : ℕ) (xs : List ℕ) → Ascending xs → mem p xs ≡ true → length (put p xs) ≡ length xs
-length-put-old p xs a m = ap length (ascending-unique (put p xs) xs (ascending-put p xs a) a same)
+-- what is there already changes nothing
+pub put-member : (p : ℕ) (xs : List ℕ) → Ascending xs → mem p xs ≡ true → put p xs ≡ xs
+put-member p xs a m = ascending-unique (put p xs) xs (ascending-put p xs a) a same
   where
     same : SameMembers (put p xs) xs
     same z = mem-put z p xs ∙ by-test (eqb z p) (λ e. rw e (sym (subst (λ (k : ℕ). mem k xs ≡ true) (sym (eqb-true z p e)) m))) (λ e. rw e)
+
+pub length-put-old : (p : ℕ) (xs : List ℕ) → Ascending xs → mem p xs ≡ true → length (put p xs) ≡ length xs
+length-put-old p xs a m = ap length (put-member p xs a m)
 
 pub length-without : (p : ℕ) (xs : List ℕ) → Distinct xs → mem p xs ≡ true → suc (length (without p xs)) ≡ length xs
 length-without p xs d m = length-same (p ∷ without p xs) xs (mem-without p p xs ∙ rw (eqb-self p), distinct-keep (λ y. not (eqb p y)) xs d) d same

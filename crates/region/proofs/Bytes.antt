@@ -46,6 +46,13 @@ byte-lead b k s i h l =
     let e : 8 * (b - suc i) ≡ 8 * (b - k) + 8 * (k - suc i) = omega arith in
     ap (λ (c : ℕ). s / 2 ^ c % 256) e ∙ ap (λ (c : ℕ). c % 256) (sym (shr-shr s (8 * (b - k)) (8 * (k - suc i))))
 
+-- numbers that are equal without their last k bytes have the same bytes before them
+pub lead-same : (b k s t i : ℕ) → k ≤ b → s / 2 ^ (8 * k) ≡ t / 2 ^ (8 * k) → i < b - k → byteOf b s i ≡ byteOf b t i
+lead-same b k s t i h e l =
+    let z : b - (b - k) ≡ k = omega arith in
+    let q : (u : ℕ) → byteOf b u i ≡ byteOf (b - k) (u / 2 ^ (8 * k)) i = λ u. byte-lead b (b - k) u i (omega arith) l ∙ ap (λ (j : ℕ). byteOf (b - k) (u / 2 ^ (8 * j)) i) z in
+    q s ∙ ap (λ (u : ℕ). byteOf (b - k) u i) e ∙ sym (q t)
+
 -- a string q of k bytes, and one byte y more
 module _ (k q y : ℕ) (hy : y < 256) where
   pub more-old : (i : ℕ) → i < k → byteOf k q i ≡ byteOf (suc k) (q * 256 + y) i

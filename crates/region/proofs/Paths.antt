@@ -18,7 +18,7 @@ below-suc P k h hk i l = pick (ℕ-discrete i k)
     pick (no ne) = h i (omega arith)
 
 -- only the bytes passed matter
-follow-ext : (v : Nodes) (n : ℕ) (f g : ℕ → ℕ) (k : ℕ) → ((i : ℕ) → i < k → f i ≡ g i) → follow v n f k ≡ follow v n g k
+pub follow-ext : (v : Nodes) (n : ℕ) (f g : ℕ → ℕ) (k : ℕ) → ((i : ℕ) → i < k → f i ≡ g i) → follow v n f k ≡ follow v n g k
 follow-ext v n f g zero h = refl
 follow-ext v n f g (suc k) h = ap₂ (v .child) (follow-ext v n f g k (λ i l. h i (omega arith))) (h k (omega arith))
 

@@ -5,7 +5,7 @@ use mathlib.Core.Logic.{_≢_}
 use mathlib.Core.Bool.{Bool, true, false, false≢true}
 use mathlib.Core.List.{List, map}
 use native.Mathlib.Omega.{arith}
-use lib.ListN.{length, take, drop, getD, length-take, length-drop}
+use lib.ListN.{length, take, drop, length-take}
 use lib.Seq.{getD-take, take-all}
 use Rattle.lists.specs.Lists.{keep}
 use Rattle.model.specs.Words.{joined}

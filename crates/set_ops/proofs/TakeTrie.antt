@@ -8,7 +8,7 @@ use lib.Dec.{eqb}
 use lib.ListN.{length, take, getD}
 use borrow.Author.Tests.{eqb-false, eqb-true, lt-ltb, ltb-true}
 use Rattle.lists.specs.Lists.{Ascending, Within, mem, put}
-use Rattle.lists.proofs.Laws.{ascending-distinct, ascending-put, ascending-unique, by-test, eqb-self, length-within, mem-put, or-cases, or-left, or-right}
+use Rattle.lists.proofs.Laws.{ascending-distinct, by-test, eqb-self, length-within, mem-put, or-cases, or-left, or-right}
 use Rattle.model.specs.Words.{joined, prefixOf, suffixOf}
 use Rattle.model.specs.Room.{fits, isTrie, threshold}
 use Rattle.model.specs.Reading.{Reading, has, prefixesOf, under, walk}
@@ -16,7 +16,7 @@ use Rattle.model.specs.Change.{insert}
 use Rattle.model.specs.Commands.{run}
 use Rattle.model.specs.Combine.{inserting}
 use Rattle.model.specs.Good.{Good}
-use Rattle.model.proofs.ContainerLaws.{each-under, prefix-joined, suffix-joined, under-placed}
+use Rattle.model.proofs.ContainerLaws.{put-member, each-under, prefix-joined, suffix-joined, under-placed}
 use Rattle.model.proofs.RoomLaws.{fits-within}
 use Rattle.model.proofs.StoredLaws.{put-above}
 use Rattle.model.proofs.Steps.{has-is}
@@ -41,11 +41,6 @@ use Rattle.set_ops.proofs.TakeVector.{Fills, filled, filled-good, fille
 use Rattle.set_ops.proofs.TakeBlocks.{front-small}
 
 -- Suffixes put at their places
-
--- a member changes nothing
-put-member : (s : ℕ) (xs : List ℕ) → Ascending xs → mem s xs ≡ true → put s xs ≡ xs
-put-member s xs a m = ascending-unique (put s xs) xs (ascending-put s xs a) a (λ z.
-    mem-put z s xs ∙ by-test (eqb z s) (λ e. rw e (sym (subst (λ (k : ℕ). mem k xs ≡ true) (sym (eqb-true z s e)) m))) (λ e. rw e))
 
 -- what stands there stays
 put-within : (s : ℕ) (xs : List ℕ) → Within xs (put s xs)

@@ -14,7 +14,7 @@ use Rattle.region.specs.Nodes.{Nodes}
 use Rattle.region.specs.Tries.{byteOf, members, follow}
 use Rattle.region.specs.Linked.{Wf}
 use Rattle.region.proofs.Bytes.{byte-lt}
-use Rattle.region.proofs.Paths.{At, reach}
+use Rattle.region.proofs.Paths.{At, reach, follow-ext, path-ext}
 use Rattle.region.proofs.Listing.{path-member, member-path}
 use Rattle.arena.specs.Arena.{nodesIn, Root}
 use Rattle.arena.proofs.Stays.{root-at, below-suc}
@@ -35,6 +35,14 @@ start v root s b h = record { small = h; at = refl; path = λ i l. absurd (omega
 
 pub there : {v : Nodes} {N root s b n j : ℕ} → Wf v N b → Root v N root → Walked v root s b n j → At v N j n
 there {v} {N} {root} {s} {b} {n} {j} wf rt w = subst (At v N j) (sym (w .at)) (reach v N b (wf .down) root (byteOf b s) (root-at rt) (byte-lt b s) j (w .small) (w .path))
+
+-- a suffix with the same leading bytes leads to the same node
+pub walked-as : {v : Nodes} {root s b n j : ℕ} → Walked v root s b n j → (t : ℕ) → ((i : ℕ) → i < j → byteOf b s i ≡ byteOf b t i) → Walked v root t b n j
+walked-as {v} {root} {s} {b} {n} {j} w t e = record {
+  small = w .small;
+  at = w .at ∙ follow-ext v root (byteOf b s) (byteOf b t) j e;
+  path = path-ext v root (byteOf b s) (byteOf b t) j e (w .path);
+}
 
 module _ {v : Nodes} {root s b n j : ℕ} (w : Walked v root s b n j) where
   -- one step more

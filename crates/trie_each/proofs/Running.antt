@@ -5,18 +5,15 @@ use mathlib.Core.Bool.{Bool, true, false, false≢true, _||_}
 use mathlib.Core.List.{List, [], _∷_}
 use native.Mathlib.Omega.{arith}
 use native.Mathlib.Numerals.{add-one}
-use lib.Dec.{eqb}
 use lib.ListN.{length, take, getD}
-use borrow.Author.Tests.{eqb-true}
-use Rattle.lists.specs.Lists.{mem, put, Ascending, SameMembers}
-use Rattle.lists.proofs.Laws.{by-test, eqb-self, mem-put, ascending-put, ascending-unique}
-use Rattle.model.specs.Room.{trieNodes}
-use Rattle.model.proofs.ContainerLaws.{length-put-new, length-put-old}
+use Rattle.lists.specs.Lists.{mem, put}
+use Rattle.lists.proofs.Laws.{eqb-self, mem-put}
+use Rattle.model.proofs.ContainerLaws.{put-member, length-put-new, length-put-old}
 use Rattle.region.specs.Nodes.{Nodes}
 use Rattle.region.specs.Tries.{members}
 use Rattle.region.proofs.Listing.{members-ascend}
 use Rattle.arena.specs.Arena.{nodesIn, Root, Arena, Became}
-use Rattle.arena.proofs.Stays.{stay-refl, stay-others, others-trans}
+use Rattle.arena.proofs.Becoming.{became-same, became-then}
 use Rattle.trie.specs.Walked.{Walked}
 use Rattle.trie.specs.Answers.{InsertedAs}
 use Rattle.trie.specs.declared.Inserted.{Inserted}
@@ -28,12 +25,6 @@ use Rattle.trie_each.proofs.Leading.{shared}
 
 -- Lists
 
-put-same : (s : ℕ) (xs : List ℕ) → Ascending xs → mem s xs ≡ true → put s xs ≡ xs
-put-same s xs a m = ascending-unique (put s xs) xs (ascending-put s xs a) a same
-  where
-    same : SameMembers (put s xs) xs
-    same z = mem-put z s xs ∙ by-test (eqb z s) (λ e. rw e (sym (subst (λ (k : ℕ). mem k xs ≡ true) (sym (eqb-true z s e)) m))) (λ e. rw e)
-
 -- what is put is there
 mem-of-put : (s : ℕ) (xs : List ℕ) → mem s (put s xs) ≡ true
 mem-of-put s xs = mem-put s s xs ∙ ap (λ (q : Bool). q || mem s xs) (eqb-self s)
@@ -42,28 +33,6 @@ each-suc : (ms ss : List ℕ) (i : ℕ) → i < length ss → putEach ms (take (
 each-suc ms [] i h = absurd (omega arith)
 each-suc ms (s ∷ ss) zero h = refl
 each-suc ms (s ∷ ss) (suc i) h = each-suc (put s ms) ss i (omega arith)
-
--- Tries
-
-became-same : (N b used : ℕ) (l : List ℕ) (n : ℕ) (ss : List ℕ) → Arena N b used l → Root (nodesIn N l) N n → members (nodesIn N l) b n ≡ ss → Became N b used l n ss used l
-became-same N b used l n ss a rt e = record {
-  arena = a;
-  root = rt;
-  container = refl;
-  suffixes = e;
-  others = stay-others n (stay-refl (nodesIn N l) N b);
-  room = ap (λ (xs : List ℕ). used + trieNodes b xs) e;
-}
-
-became-then : (N b used : ℕ) (l : List ℕ) (n : ℕ) (ss : List ℕ) (u₁ : ℕ) (l₁ : List ℕ) (ts : List ℕ) (u₂ : ℕ) (l₂ : List ℕ) → Became N b used l n ss u₁ l₁ → Became N b u₁ l₁ n ts u₂ l₂ → Became N b used l n ts u₂ l₂
-became-then N b used l n ss u₁ l₁ ts u₂ l₂ p q = record {
-  arena = q .arena;
-  root = q .root;
-  container = q .container ∙ p .container;
-  suffixes = q .suffixes;
-  others = others-trans (p .others) (q .others);
-  room = let e : trieNodes b (members (nodesIn N l₁) b n) ≡ trieNodes b ss = ap (trieNodes b) (p .suffixes) in omega (arith, p .room, q .room);
-}
 
 -- One insert
 
@@ -85,7 +54,7 @@ module _ (N b used root s m : ℕ) (l l′ : List ℕ) where
   became-of (New u) o a rt i t ok = subst (λ (k : ℕ). Became N b used l root (put s ms) k l′) (sym (t .2)) (i .1)
   became-of Old o a rt i t ok =
       subst (λ (k : ℕ). Became N b used l root (put s ms) k l′) (sym (t .2))
-      (subst (λ (k : List ℕ). Became N b used l root (put s ms) used k) (sym (i .1)) (became-same N b used l root (put s ms) a rt (sym (put-same s ms (members-ascend (nodesIn N l) b root) (i .0)))))
+      (subst (λ (k : List ℕ). Became N b used l root (put s ms) used k) (sym (i .1)) (became-same N b used l root (put s ms) a rt (sym (put-member s ms (members-ascend (nodesIn N l) b root) (i .0)))))
   became-of NoRoom o a rt i t ok = absurd (false≢true (sym (t .0) ∙ ok))
 
   grown-of : (d : Inserted) (o : One) → InsertedAs N b used root s l d l′ → Told used m d o → o .ok ≡ true → length ms + o .new ≡ length (put s ms)

@@ -21,7 +21,7 @@ use Rattle.trie.specs.Answers.{RemovedAs}
 use Rattle.trie.specs.declared.Removed.{Removed}
 use Rattle.trie.specs.declared.Removed.the-variants.{Gone, Last, Absent}
 use Rattle.trie_walk.specs.Pour.{window}
-use Rattle.trie_pour.proofs.Sowing.{became-same, became-then}
+use Rattle.arena.proofs.Becoming.{became-same, became-then}
 
 -- a trie has a member
 pub has-some : (N b used : ℕ) (l : List ℕ) (n : ℕ) → Arena N b used l → Root (nodesIn N l) N n → 1 ≤ length (members (nodesIn N l) b n)

@@ -1,6 +1,6 @@
 -- A strip's suffixes put into a trie, from the last on: each is new, and there is room for all. Assumes nothing.
 use Prim.Native.Nat.{ℕ, zero, suc, _+_, _-_, _≤_, _<_}
-use mathlib.Core.Path.{_≡_, refl, sym, ap, _∙_, subst}
+use mathlib.Core.Path.{_≡_, sym, ap, _∙_, subst}
 use mathlib.Core.Bool.{Bool, true, false, false≢true}
 use mathlib.Core.List.{List, [], _∷_}
 use native.Mathlib.Omega.{arith}
@@ -14,31 +14,12 @@ use Rattle.model.specs.Room.{trieNodes}
 use Rattle.model.proofs.RoomLaws.{trie-within}
 use Rattle.region.specs.Tries.{members}
 use Rattle.arena.specs.Arena.{nodesIn, Root, Arena, Became, Planted}
-use Rattle.arena.proofs.Stays.{stay-refl, stay-others, others-trans}
+use Rattle.arena.proofs.Stays.{others-trans}
+use Rattle.arena.proofs.Becoming.{became-same, became-then}
 use Rattle.trie.proofs.Room.{nodes-single}
 use Rattle.trie.specs.Answers.{InsertedAs}
 use Rattle.trie.specs.declared.Inserted.{Inserted}
 use Rattle.trie.specs.declared.Inserted.the-variants.{New, Old, NoRoom}
-
-pub became-same : (N b used : ℕ) (l : List ℕ) (n : ℕ) (ss : List ℕ) → Arena N b used l → Root (nodesIn N l) N n → members (nodesIn N l) b n ≡ ss → Became N b used l n ss used l
-became-same N b used l n ss a rt e = record {
-  arena = a;
-  root = rt;
-  container = refl;
-  suffixes = e;
-  others = stay-others n (stay-refl (nodesIn N l) N b);
-  room = ap (λ (xs : List ℕ). used + trieNodes b xs) e;
-}
-
-pub became-then : (N b used : ℕ) (l : List ℕ) (n : ℕ) (ss : List ℕ) (u₁ : ℕ) (l₁ : List ℕ) (ts : List ℕ) (u₂ : ℕ) (l₂ : List ℕ) → Became N b used l n ss u₁ l₁ → Became N b u₁ l₁ n ts u₂ l₂ → Became N b used l n ts u₂ l₂
-became-then N b used l n ss u₁ l₁ ts u₂ l₂ p q = record {
-  arena = q .arena;
-  root = q .root;
-  container = q .container ∙ p .container;
-  suffixes = q .suffixes;
-  others = others-trans (p .others) (q .others);
-  room = let e : trieNodes b (members (nodesIn N l₁) b n) ≡ trieNodes b ss = ap (trieNodes b) (p .suffixes) in omega (arith, p .room, q .room);
-}
 
 pub planted-then : (N b used : ℕ) (l : List ℕ) (c n : ℕ) (ss : List ℕ) (u₁ : ℕ) (l₁ : List ℕ) (ts : List ℕ) (u₂ : ℕ) (l₂ : List ℕ) → Planted N b used l c n ss u₁ l₁ → Became N b u₁ l₁ n ts u₂ l₂ → Planted N b used l c n ts u₂ l₂
 planted-then N b used l c n ss u₁ l₁ ts u₂ l₂ p q = record {

@@ -1,5 +1,5 @@
 -- Members side by side that share a node of the last level: each but the last loses its bit there, and the node keeps the bit of the next. Assumes nothing.
-use Prim.Native.Nat.{ℕ, zero, suc, _+_, _-_, _*_, _/_, _^_, _≤_, _<_}
+use Prim.Native.Nat.{ℕ, suc, _+_, _-_, _*_, _/_, _^_, _≤_, _<_}
 use mathlib.Core.Path.{_≡_, refl, sym, ap, ap₂, _∙_}
 use mathlib.Core.Bool.{true}
 use mathlib.Core.List.{List, _∷_}
@@ -10,13 +10,14 @@ use lib.Seq.{drop-cons, length-take-le, getD-take}
 use Rattle.lists.specs.Lists.{mem}
 use Rattle.lists.proofs.Laws.{or-left, eqb-self}
 use Rattle.region.specs.Nodes.{Nodes}
-use Rattle.region.specs.Tries.{byteOf, members, follow}
+use Rattle.region.specs.Tries.{byteOf, members}
 use Rattle.region.specs.WellFormed.{NonEmpty}
-use Rattle.region.proofs.Bytes.{byte-lt, byte-lead}
+use Rattle.region.proofs.Bytes.{byte-lt, lead-same}
 use Rattle.region.proofs.Listing.{member-path, member-small}
 use Rattle.arena.specs.Arena.{nodesIn}
 use Rattle.arena.specs.Changes.{SpareStays, BitMade}
 use Rattle.trie.specs.Walked.{Walked}
+use Rattle.trie.proofs.Lookup.{walked-as}
 use Rattle.trie.proofs.Shrinking as shrinking
 use Rattle.trie_pour.proofs.Reaping.{Reaped, least, rest, reaped-more}
 
@@ -24,25 +25,9 @@ use Rattle.trie_pour.proofs.Reaping.{Reaped, least, rest, reaped-more}
 pub next-bit : {v : Nodes} {root s b n j : ℕ} → Walked v root s b n j → mem s (members v b root) ≡ true → (x : ℕ) → x ≡ byteOf b s j → v .bit n x ≡ 1
 next-bit {v} {root} {s} {b} {n} {j} w m x e = ap₂ (v .bit) (w .at) e ∙ member-path v b root s m j (w .small)
 
--- only the bytes passed matter (region's Paths has this law for itself)
-follow-same : (v : Nodes) (n : ℕ) (f g : ℕ → ℕ) (k : ℕ) → ((i : ℕ) → i < k → f i ≡ g i) → follow v n f k ≡ follow v n g k
-follow-same v n f g zero h = refl
-follow-same v n f g (suc k) h = ap₂ (v .child) (follow-same v n f g k (λ i l. h i (omega arith))) (h k (omega arith))
-
--- numbers that are equal but for the last byte have the same bytes before it
-same-lead : (b s t i : ℕ) → t / 256 ≡ s / 256 → i < b - 1 → byteOf b s i ≡ byteOf b t i
-same-lead b s t i e h =
-    let z : 8 * (b - (b - 1)) ≡ 8 = omega arith in
-    let le : b - 1 ≤ b = omega arith in
-    byte-lead b (b - 1) s i le h ∙ ap (λ (q : ℕ). byteOf (b - 1) q i) (ap (λ (k : ℕ). s / 2 ^ k) z ∙ sym e ∙ sym (ap (λ (k : ℕ). t / 2 ^ k) z)) ∙ sym (byte-lead b (b - 1) t i le h)
-
 -- a member with the same leading bytes is in the same node
-same-node : {v : Nodes} {root s b n : ℕ} → Walked v root s b n (b - 1) → (t : ℕ) → t / 256 ≡ s / 256 → mem t (members v b root) ≡ true → Walked v root t b n (b - 1)
-same-node {v} {root} {s} {b} {n} w t e m = record {
-  small = w .small;
-  at = w .at ∙ follow-same v root (byteOf b s) (byteOf b t) (b - 1) (λ i h. same-lead b s t i e h);
-  path = λ i h. member-path v b root t m i (omega (arith, w .small));
-}
+same-node : {v : Nodes} {root s b n : ℕ} → Walked v root s b n (b - 1) → (t : ℕ) → t / 256 ≡ s / 256 → Walked v root t b n (b - 1)
+same-node {s = s} {b = b} w t e = walked-as w t (λ i h. lead-same b 1 s t i (omega arith) (sym e) h)
 
 -- the members from k on are left, node holds the one at k and the next, and used nodes are in use still
 pub record Run (N b used : ℕ) (l₀ : List ℕ) (root n : ℕ) (out : List ℕ) (i node head k : ℕ) (l : List ℕ) : Type 0 where
@@ -84,7 +69,7 @@ module _ {N b used : ℕ} {l₀ : List ℕ} {root n : ℕ} {out : List ℕ} {i n
       (or-left (eqb t t) (mem t (drop (suc (k + 1)) (take n out))) (eqb-self t))
 
   next-walked : Walked (nodesIn N l′) root t b node (b - 1)
-  next-walked = same-node (both .1 .state .walked) t (g .there ∙ sym (g .here)) next-there
+  next-walked = same-node (both .1 .state .walked) t (g .there ∙ sym (g .here))
 
   -- the node keeps the bit of the next
   some : NonEmpty (nodesIn N l′) node

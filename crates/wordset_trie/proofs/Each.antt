@@ -1,18 +1,15 @@
 -- Puts of several suffixes in a trie of a region: the suffixes stay good, lengths and counts fit a word, and the region reads as it should. Assumes nothing.
 use Prim.Native.Nat.{ℕ, suc, _+_, _^_, _<_, _≤_}
 use mathlib.Core.Path.{_≡_, refl, sym, ap, _∙_, subst}
-use mathlib.Core.Bool.{Bool, true, false}
+use mathlib.Core.Bool.{true}
 use mathlib.Core.List.{List, [], _∷_}
 use native.Mathlib.Omega.{arith}
 use lib.Dec.{eqb}
-use lib.Pow.{pow-mono}
 use lib.ListN.{length, take, getD}
 use lib.Seq.{length-take-le, getD-take}
 use borrow.Author.Tests.{eqb-true}
 use Rattle.lists.specs.Lists.{mem, one, put, Ascending}
-use Rattle.lists.specs.Sums.{sum}
 use Rattle.lists.proofs.Laws.{or-cases, mem-put, ascending-put, ascending-distinct}
-use Rattle.lists.proofs.Counts.{sum-few, length-count}
 use Rattle.model.specs.Words.{bytesOf}
 use Rattle.model.specs.Good.{GoodSuffixes}
 use Rattle.region.specs.Areas.{Numbers, numbers}
@@ -24,6 +21,7 @@ use Rattle.arena.specs.Arena.{nodesIn, Became}
 use Rattle.steps.specs.Steps.{counted}
 use Rattle.trie_each.specs.declared.Many.{Many}
 use Rattle.trie_each.specs.Each.{putEach, NoRoomFor, InsertedEach}
+use Rattle.wordset_vector.proofs.Counting.{few-suffixes}
 use Rattle.wordset_trie.specs.declared.Outcome.the-variants.{NoRoom}
 use Rattle.wordset_trie.specs.Settled.{Settled}
 use Rattle.wordset_trie.specs.Answers.{PutAs, PutEach}
@@ -47,18 +45,6 @@ good-each S ms ss a below small = record {
   distinct = ascending-distinct (putEach ms ss) (ascending-each ms ss a);
   ordered = λ e. ascending-each ms ss a;
 }
-
--- different suffixes below 2^40
-few : (S : ℕ) (ss : List ℕ) → S ≤ 40 → GoodSuffixes S ss → length ss ≤ 1099511627776
-few S ss h good =
-    let a : length ss ≡ sum (λ x. one (mem x ss)) (2 ^ S) = length-count ss (2 ^ S) (good .distinct) (good .below) in
-    let b : sum (λ x. one (mem x ss)) (2 ^ S) ≤ 2 ^ S = sum-few (λ x. one (mem x ss)) (2 ^ S) (λ x. at-most (mem x ss)) in
-    let d : 2 ^ S ≤ 2 ^ 40 = pow-mono h in
-    omega arith
-  where
-    at-most : (b : Bool) → one b ≤ 1
-    at-most true = omega arith
-    at-most false = omega arith
 
 -- the next one found no room in a region with these numbers and suffixes
 no-room : (c s : ℕ) (g : Numbers) (l′ ss : List ℕ) (k used count : ℕ) → numbers l′ ≡ counted g k used count → suffixes (numbers l′) (seen (numbers l′) l′) c ≡ ss → NoRoomFor (g .N) (bytesOf (g .S)) used s ss → PutAs c s l′ NoRoom l′
@@ -106,7 +92,7 @@ module _ (l : List ℕ) (wf : WellFormed l) (c : ℕ) (h : c < numbers l .C) (k 
 
     -- the new length fits a word, and so does what was added
     pub each-few : v .size c + r .added ≤ 1099511627776
-    each-few = omega (arith, length-after, few (g .S) after (suffix-bits l wf c h k .1) good)
+    each-few = omega (arith, length-after, few-suffixes (g .S) after (suffix-bits l wf c h k .1) good)
 
     pub each-ready : Ready (withLent l new) × (c < numbers (withLent l new) .C)
     each-ready = given-ready l wf c h k became

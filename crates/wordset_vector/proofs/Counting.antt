@@ -27,7 +27,7 @@ use Rattle.region.proofs.Containers.{k-fits, containers-length, containers-good
 use Rattle.steps.proofs.Places.{length-placed, under-set}
 
 -- different suffixes below 2^40
-few-suffixes : (S : ℕ) (ss : List ℕ) → S ≤ 40 → GoodSuffixes S ss → length ss ≤ 1099511627776
+pub few-suffixes : (S : ℕ) (ss : List ℕ) → S ≤ 40 → GoodSuffixes S ss → length ss ≤ 1099511627776
 few-suffixes S ss h good =
     let a : length ss ≡ sum (λ x. one (mem x ss)) (2 ^ S) = length-count ss (2 ^ S) (good .distinct) (good .below) in
     let b : sum (λ x. one (mem x ss)) (2 ^ S) ≤ 2 ^ S = sum-few (λ x. one (mem x ss)) (2 ^ S) (λ x. at-most (mem x ss)) in
