@@ -27,7 +27,7 @@ impl Memory {
 
     fn zeroes(len: usize, nodes: usize) -> Memory {
         let words = vec![0; len + LINE - 1];
-        let first = words.as_ptr() as usize / size_of::<u64>() + nodes;
+        let first = words.as_ptr() as usize / std::mem::size_of::<u64>() + nodes;
         let start = first.next_multiple_of(LINE) - first;
         Memory { words, start, nodes, len }
     }

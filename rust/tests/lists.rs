@@ -259,10 +259,10 @@ fn new_prefixes_by_blocks() {
                 let held: Vec<u64> = prefixes[..old as usize].iter().map(|&prefix| word(prefix, &mut random)).collect();
                 both(&mut l, &mut model, &vec![1; held.len()], &held, held.len()).unwrap();
                 // some go, so that the free slots stand in no order
-                both(&mut l, &mut model, &vec![2; 20], &held[..20], 20).unwrap();
+                both(&mut l, &mut model, &[2; 20], &held[..20], 20).unwrap();
                 let back: Vec<u64> = (0..20).rev().map(|i| held[(i * 7) % 20]).collect();
-                both(&mut l, &mut model, &vec![1; 13], &back[..13], 13).unwrap();
-                both(&mut l, &mut model, &vec![1; 7], &back[13..], 7).unwrap();
+                both(&mut l, &mut model, &[1; 13], &back[..13], 13).unwrap();
+                both(&mut l, &mut model, &[1; 7], &back[13..], 7).unwrap();
                 let new: Vec<u64> = prefixes[old as usize..].iter().map(|&prefix| word(prefix, &mut random)).collect();
                 let mut twice = new.clone();
                 twice.insert(random.below(length as u64) as usize, new[random.below(length as u64) as usize] ^ 1);

@@ -22,7 +22,7 @@ pub struct Model {
 }
 
 fn bytes(s: u64) -> u32 {
-    ((s + 7) / 8) as u32
+    s.div_ceil(8) as u32
 }
 
 /// The different leading byte strings, of lengths 0 to b-1.
