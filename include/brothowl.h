@@ -6,8 +6,8 @@
    (region of make and list, answers, output, destination) must not overlap any other slice of the call. Slices that are
    only read may be one and the same.
 
-   A region may begin at any word. The quickest place is one where its nodes begin at a cache line, that is, where
-   region + region[14] is a multiple of 64 bytes: then no node has the eight words that are looked at together on two. */
+   A region may begin at any word. It is quickest where its nodes, the last 264 * n of its words, begin at a cache line
+   (64 bytes): then none of them has the eight words that are looked at together on two lines. */
 #ifndef BROTHOWL_H
 #define BROTHOWL_H
 

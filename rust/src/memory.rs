@@ -1,15 +1,18 @@
 //! Memory that a set owns.
 use crate::region::Numbers;
+use std::fmt;
 use std::ops::{Deref, DerefMut};
 
-/// Words of a cache line.
+/// Words of a cache line of 64 bytes.
 const LINE: usize = 8;
 
 /// The words of a set that owns them; a slice to whoever looks at it.
 ///
-/// Its trie nodes begin at cache lines. The first eight words of a node are looked at together, and a node is 33 lines long: either
-/// no node has these words on two lines, or all have. A region may begin anywhere; this is only the quickest place.
-#[derive(Debug)]
+/// The nodes of the region that it is made for begin at cache lines. The first eight words of a node are looked at together, and
+/// a node is 33 lines long: either no node has these words on two lines, or all have. A region may begin anywhere; this is only
+/// the quickest place.
+///
+/// Words that were kept elsewhere come back into such memory by [`Set::copy_of`](crate::Set::copy_of).
 pub struct Memory {
     words: Vec<u64>,
     start: usize,
@@ -68,8 +71,25 @@ impl Clone for Memory {
     }
 }
 
+impl PartialEq for Memory {
+    fn eq(&self, other: &Memory) -> bool {
+        **self == **other
+    }
+}
+
+impl Eq for Memory {}
+
+impl fmt::Debug for Memory {
+    fn fmt(&self, f: &mut fmt::Formatter<'_>) -> fmt::Result {
+        fmt::Debug::fmt(&**self, f)
+    }
+}
+
 impl From<Memory> for Vec<u64> {
     fn from(memory: Memory) -> Vec<u64> {
-        memory.to_vec()
+        let Memory { mut words, start, len, .. } = memory;
+        words.truncate(start + len);
+        words.drain(..start);
+        words
     }
 }

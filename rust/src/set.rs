@@ -91,10 +91,30 @@ impl Set<Memory> {
         region::make(&mut region, numbers)?;
         Ok(Set { region })
     }
+
+    /// The set in a region that was made before, copied into memory of its own.
+    ///
+    /// ```
+    /// use brothowl::{Numbers, Set};
+    ///
+    /// let mut set = Set::new(Numbers::for_keys(4, 8))?;
+    /// set.insert(7)?;
+    /// let stored: Vec<u64> = set.into_region().into();
+    /// let back: Set = Set::copy_of(&stored)?;
+    /// assert!(back.contains(7)?);
+    /// # Ok::<(), brothowl::Refusal>(())
+    /// ```
+    pub fn copy_of(region: &[u64]) -> Result<Set, Refusal> {
+        let lent = Set::over(region)?;
+        let mut copy = Memory::for_region(lent.numbers()).ok_or(Refusal::OutOfRange)?;
+        let words = copy.len();
+        copy.copy_from_slice(&region[..words]);
+        Ok(Set { region: copy })
+    }
 }
 
 impl<R: AsRef<[u64]>> Set<R> {
-    /// The set in a region that was made before.
+    /// The set in a region that was made before, where it lies; [`Set::copy_of`] copies it.
     ///
     /// ```
     /// use brothowl::{make, Numbers, Refusal, Set};

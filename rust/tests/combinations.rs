@@ -2,6 +2,7 @@
 mod common;
 use brothowl::{combine, make, run, Command, Numbers, Operation, Refusal, Set};
 use common::{hold, Model, Numbers64};
+use std::collections::BTreeSet;
 
 const MARK: u64 = 0xDEAD_BEEF_0BAD_CAFE;
 const ALL: [Operation; 4] = [Operation::Or, Operation::And, Operation::Minus, Operation::Xor];
@@ -93,23 +94,23 @@ fn tries_and_vectors() {
 }
 
 /// Tries whose suffixes differ from the one before in the last byte, in the last two, or in more: a trie takes many at a time.
+/// Each has 2,600 words and 1,300 are in both, so all four results are tries.
 #[test]
 fn neighbours_in_tries() {
     let mut random = Numbers64(10);
-    for s in [11, 17, 28, 40] {
-        let words = |random: &mut Numbers64| -> Vec<u64> {
-            let mut v = Vec::new();
-            while v.len() < 1700 {
-                let (at, step) = (random.below(1 << s), 1 << [0, 5, 8, 13][random.below(4) as usize]);
-                v.extend((0..random.below(30)).map(|i| (1 << s) + (at + i * step) % (1 << s)));
-            }
-            v
-        };
-        let x = words(&mut random);
-        // half of the one is in the other
-        let y: Vec<u64> = x.iter().copied().step_by(2).chain(words(&mut random)).collect();
-        let a = filled(Numbers { p: 2, s, containers: 2, nodes: 9000 }, &x);
-        let b = filled(Numbers { p: 2, s, containers: 2, nodes: 9000 }, &y);
+    for s in [12, 17, 28, 40] {
+        let mut suffixes = BTreeSet::new();
+        while suffixes.len() < 3900 {
+            let (at, step) = (random.below(1 << s), 1 << [0, 5, 8, 13][random.below(4) as usize]);
+            suffixes.extend((0..30).map(|i| (at + i * step) % (1 << s)));
+        }
+        let mut words: Vec<u64> = suffixes.into_iter().take(3900).map(|suffix| (1 << s) + suffix).collect();
+        (1..words.len()).for_each(|i| words.swap(i, random.below(i as u64 + 1) as usize));
+        let numbers = Numbers { p: 2, s, containers: 2, nodes: 12000 };
+        let (a, b) = (filled(numbers, &words[..2600]), filled(numbers, &words[1300..]));
+        for code in 0..4 {
+            assert!(Model::combine(code, &a.1, &b.1, numbers).unwrap().nodes() > 0, "a trie");
+        }
         all_four(&a, &b, &mut random);
     }
 }

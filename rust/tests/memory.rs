@@ -28,6 +28,9 @@ fn nodes_begin_at_lines() {
             memory[7] = 1;
             let words = Vec::from(memory.clone());
             assert_eq!(words[..], memory[..]);
+            assert_eq!(format!("{memory:?}"), format!("{words:?}"));
+            let copy = Set::copy_of(&words).unwrap().into_region();
+            assert_eq!((off_line(&copy), &copy), (0, &memory));
             assert!(Set::over(memory).unwrap().contains(5).unwrap());
             assert!(Set::over(words).unwrap().contains(5).unwrap());
         }

@@ -98,6 +98,10 @@ mem-put z x (y ∷ ys) = go (ltb x y) refl (eqb x y) refl (mem-put z x ys)
     go false e true f ih = rw (e, f, eqb-true x y f) (sym (or-same (eqb z y) (mem z ys)))
     go false e false f ih = rw (e, f) (ap (λ (b : Bool). eqb z y || b) ih ∙ or-swap (eqb z y) (eqb z x) (mem z ys))
 
+-- what is put is there
+pub put-there : (x : ℕ) (ys : List ℕ) → mem x (put x ys) ≡ true
+put-there x ys = mem-put x x ys ∙ or-left (eqb x x) (mem x ys) (eqb-self x)
+
 pub mem-sorted : (z : ℕ) (xs : List ℕ) → mem z (sorted xs) ≡ mem z xs
 mem-sorted z [] = refl
 mem-sorted z (x ∷ xs) = mem-put z x (sorted xs) ∙ ap (λ (b : Bool). eqb z x || b) (mem-sorted z xs)

@@ -8,7 +8,7 @@ use lib.Dec.{eqb}
 use lib.ListN.{length, take, getD}
 use borrow.Author.Tests.{eqb-false, eqb-true, lt-ltb, ltb-true}
 use Rattle.lists.specs.Lists.{Ascending, Within, mem, put}
-use Rattle.lists.proofs.Laws.{ascending-distinct, by-test, eqb-self, length-within, mem-put, or-cases, or-left, or-right}
+use Rattle.lists.proofs.Laws.{put-there, ascending-distinct, by-test, eqb-self, length-within, mem-put, or-cases, or-right}
 use Rattle.model.specs.Words.{joined, prefixOf, suffixOf}
 use Rattle.model.specs.Room.{fits, isTrie, threshold}
 use Rattle.model.specs.Reading.{Reading, has, prefixesOf, under, walk}
@@ -45,9 +45,6 @@ use Rattle.set_ops.proofs.TakeBlocks.{front-small}
 -- what stands there stays
 put-within : (s : ℕ) (xs : List ℕ) → Within xs (put s xs)
 put-within s xs z m = mem-put z s xs ∙ or-right (eqb z s) (mem z xs) m
-
-put-there : (s : ℕ) (xs : List ℕ) → mem s (put s xs) ≡ true
-put-there s xs = mem-put s s xs ∙ or-left (eqb s s) (mem s xs) (eqb-self s)
 
 each-within : (xs ss : List ℕ) → Within xs (putEach xs ss)
 each-within xs [] z m = m
@@ -229,7 +226,7 @@ module _ {l : List ℕ} (wf : WellFormed l) (c : ℕ) (h : c < numbers l .C) (k 
 
     -- it finds no room
     pub trie-halted : Halted (pouring (worded l c ss) l) l m
-    trie-halted = rest-halt c ss l small m done resting e false m (put-full next wfm NoRoom refl (put-done parts set there trie NoRoom m (x .full e))) refl
+    trie-halted = rest-halt c ss l small m done resting e false m (put-full next wfm NoRoom refl (put-done parts set there trie NoRoom m (x .full e, refl))) refl
 
   -- by whether all were put in
   pub trie-answer : PouredAs (worded l c ss) l (eqb done (length ss)) m × (eqb done (length ss) ≡ true → Bears (numbers m) (seen (numbers m) m) (v .prefix c) c)

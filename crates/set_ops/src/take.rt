@@ -21,6 +21,7 @@ use trie_look::contains_each;
 use wordset_insert::insert;
 use wordset_insert::insert_at;
 use wordset_trie::Outcome;
+use wordset_trie::put_each;
 use wordset_vector::push_all;
 
 // Suffixes that the other set is asked about at a time.
@@ -198,7 +199,7 @@ fn put_at(dest: &mut [u64], c: usize, s: u64) -> bool
 }
 
 // Inserts the words of slot c's prefix and some suffixes, in order, one by one: the slot stays the prefix's.
-fn put_each(dest: &mut [u64], c: usize, suffixes: &[u64]) -> bool
+fn put_singly(dest: &mut [u64], c: usize, suffixes: &[u64]) -> bool
     requires { ⌜ WellFormed (now dest) ⌝ }
     requires { ⌜ c < numbers (now dest) .C ⌝ }
     requires { ⌜ seen (numbers (now dest)) (now dest) .kind c ≢ 0 ⌝ }
@@ -225,7 +226,7 @@ fn put_trie(dest: &mut [u64], c: usize, suffixes: &[u64]) -> bool
     ensures poured { λ r. ⌜ PouredAs (map (joinedWord (numbers (now (dest .entry)) .S) (seen (numbers (now (dest .entry))) (now (dest .entry)) .prefix c)) (now (suffixes .entry))) (now (dest .entry)) r (now (dest .exit)) ⌝ }
     ensures stays { λ r. ⌜ (r ≡ true → Bears (numbers (now (dest .exit))) (seen (numbers (now (dest .exit))) (now (dest .exit))) (seen (numbers (now (dest .entry))) (now (dest .entry)) .prefix c) c) ⌝ }
 {
-    let done = wordset_trie::put_each(dest, c, suffixes);
+    let done = put_each(dest, c, suffixes);
     done == suffixes.len()
 }
 
@@ -245,7 +246,7 @@ fn put_all(dest: &mut [u64], c: usize, suffixes: &[u64]) -> bool
         push_all(dest, c, suffixes);
         return true;
     }
-    put_each(dest, c, suffixes)
+    put_singly(dest, c, suffixes)
 }
 
 // Whether there was room; and the slot of the prefix, once a word of it was taken over.

@@ -32,7 +32,7 @@ module _ (N b used n s : ℕ) (l l′ : List ℕ) where
       differ : New used′ ≡ NoRoom → ⊥
       differ q = let z : _≡_ {A = ℕ} 0 1 = cc in omega arith
   refused-exactly Old a e = absurd (true≢false (sym (a .0) ∙ e))
-  refused-exactly NoRoom a e = (λ q. a .1, λ h. refl)
+  refused-exactly NoRoom a e = (λ q. a .0 .1, λ h. refl)
 
   pub absent-exactly : (r : Removed) → RemovedAs N b used n s l r l′ → (r ≡ Absent → mem s ms ≡ false) × (mem s ms ≡ false → r ≡ Absent)
   absent-exactly (Gone used′) a = (λ q. absurd (differ q), λ e. absurd (true≢false (sym (a .0) ∙ e)))

@@ -53,7 +53,7 @@ module _ {N b used : ℕ} {l₀ : List ℕ} {root s n₀ j₀ : ℕ} (a : Arena 
   needs = nodes-more (a .tries .wf) (a .tries .non-empty) rt hs wk clear
 
   pub no-room : N + (j₀ + 1) < used + b → InsertedAs N b used root s l₀ NoRoom l₀
-  no-room h = (missed wk clear, omega (arith, needs, wk .small), refl)
+  no-room h = ((missed wk clear, omega (arith, needs, wk .small)), refl)
 
 -- the last bit is set: the arena is whole again
 module _ (N used : ℕ) (l₀ : List ℕ) (root s n₀ j₀ left : ℕ) (l : List ℕ) (n j : ℕ) (l′ : List ℕ) (y : ℕ) where

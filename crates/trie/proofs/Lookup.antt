@@ -44,6 +44,10 @@ walked-as {v} {root} {s} {b} {n} {j} w t e = record {
   path = path-ext v root (byteOf b s) (byteOf b t) j e (w .path);
 }
 
+-- the bit where the leading bytes of a member lead is set
+pub next-bit : {v : Nodes} {root s b n j : ℕ} → Walked v root s b n j → mem s (members v b root) ≡ true → (x : ℕ) → x ≡ byteOf b s j → v .bit n x ≡ 1
+next-bit {v} {root} {s} {b} {n} {j} w m x e = ap₂ (v .bit) (w .at) e ∙ member-path v b root s m j (w .small)
+
 module _ {v : Nodes} {root s b n j : ℕ} (w : Walked v root s b n j) where
   -- one step more
   pub more : (x c : ℕ) → x ≡ byteOf b s j → v .bit n x ≡ 1 → c ≡ v .child n x → j + 1 < b → Walked v root s b c (j + 1)

@@ -12,12 +12,15 @@ use Rattle.trie.specs.declared.Inserted.the-variants.{New, Old, NoRoom}
 use Rattle.trie.specs.declared.Removed.{Removed}
 use Rattle.trie.specs.declared.Removed.the-variants.{Gone, Last, Absent}
 
+-- s is none of the members ms of a trie, and the nodes that they need with s pass what is there
+abbrev pub NoRoomFor : ℕ → ℕ → ℕ → ℕ → List ℕ → Type 0
+NoRoomFor N b used s ms = (mem s ms ≡ false) × (N + trieNodes b ms < used + trieNodes b (put s ms))
+
 -- s was new and is a member now, with used′ nodes in use; it was one already; or the nodes that the members with s need pass what is there. But for the first nothing is changed
 abbrev pub InsertedAs : ℕ → ℕ → ℕ → ℕ → ℕ → List ℕ → Inserted → List ℕ → Type 0
 InsertedAs N b used n s l (New used′) l′ = (mem s (members (nodesIn N l) b n) ≡ false) × Became N b used l n (put s (members (nodesIn N l) b n)) used′ l′
 InsertedAs N b used n s l Old l′ = (mem s (members (nodesIn N l) b n) ≡ true) × (l′ ≡ l)
-InsertedAs N b used n s l NoRoom l′ =
-    (mem s (members (nodesIn N l) b n) ≡ false) × (N + trieNodes b (members (nodesIn N l) b n) < used + trieNodes b (put s (members (nodesIn N l) b n))) × (l′ ≡ l)
+InsertedAs N b used n s l NoRoom l′ = NoRoomFor N b used s (members (nodesIn N l) b n) × (l′ ≡ l)
 
 -- s was a member and is none now, with used′ nodes in use and others left; it was the last one, and the trie is gone; or it was none, and nothing is changed
 abbrev pub RemovedAs : ℕ → ℕ → ℕ → ℕ → ℕ → List ℕ → Removed → List ℕ → Type 0

@@ -1,13 +1,13 @@
 -- Suffixes put into a trie one after the other: one insert by its answer, and the run so far. Assumes nothing.
 use Prim.Native.Nat.{ℕ, zero, suc, _+_, _-_, _≤_, _<_}
 use mathlib.Core.Path.{_≡_, refl, sym, ap, _∙_, subst}
-use mathlib.Core.Bool.{Bool, true, false, false≢true, _||_}
+use mathlib.Core.Bool.{true, false, false≢true}
 use mathlib.Core.List.{List, [], _∷_}
 use native.Mathlib.Omega.{arith}
 use native.Mathlib.Numerals.{add-one}
 use lib.ListN.{length, take, getD}
-use Rattle.lists.specs.Lists.{mem, put}
-use Rattle.lists.proofs.Laws.{eqb-self, mem-put}
+use Rattle.lists.specs.Lists.{mem, put, Ascending}
+use Rattle.lists.proofs.Laws.{by-test, put-there}
 use Rattle.model.proofs.ContainerLaws.{put-member, length-put-new, length-put-old}
 use Rattle.region.specs.Nodes.{Nodes}
 use Rattle.region.specs.Tries.{members}
@@ -15,19 +15,19 @@ use Rattle.region.proofs.Listing.{members-ascend}
 use Rattle.arena.specs.Arena.{nodesIn, Root, Arena, Became}
 use Rattle.arena.proofs.Becoming.{became-same, became-then}
 use Rattle.trie.specs.Walked.{Walked}
-use Rattle.trie.specs.Answers.{InsertedAs}
+use Rattle.trie.specs.Answers.{NoRoomFor, InsertedAs}
 use Rattle.trie.specs.declared.Inserted.{Inserted}
 use Rattle.trie.specs.declared.Inserted.the-variants.{New, Old, NoRoom}
 use Rattle.trie_each.specs.declared.One.{One}
-use Rattle.trie_each.specs.Each.{putEach, NoRoomFor, InsertedEach}
+use Rattle.trie_each.specs.Each.{putEach, InsertedEach}
 use Rattle.trie_each.specs.Taking.{Beside, Told, Took}
 use Rattle.trie_each.proofs.Leading.{shared}
 
 -- Lists
 
--- what is put is there
-mem-of-put : (s : ℕ) (xs : List ℕ) → mem s (put s xs) ≡ true
-mem-of-put s xs = mem-put s s xs ∙ ap (λ (q : Bool). q || mem s xs) (eqb-self s)
+-- at most one is new
+one-new : (s n : ℕ) (xs : List ℕ) → Ascending xs → length xs + n ≡ length (put s xs) → n ≤ 1
+one-new s n xs a e = by-test (mem s xs) (λ m. omega (arith, e, length-put-old s xs a m)) (λ m. omega (arith, e, length-put-new s xs a m))
 
 each-suc : (ms ss : List ℕ) (i : ℕ) → i < length ss → putEach ms (take (suc i) ss) ≡ put (getD ss i 0) (putEach ms (take i ss))
 each-suc ms [] i h = absurd (omega arith)
@@ -65,16 +65,11 @@ module _ (N b used root s m : ℕ) (l l′ : List ℕ) where
   full-of : (d : Inserted) (o : One) → InsertedAs N b used root s l d l′ → Told used m d o → o .ok ≡ false → NoRoomFor N b used s ms × (l′ ≡ l)
   full-of (New u) o i t nay = absurd (false≢true (sym nay ∙ t .0))
   full-of Old o i t nay = absurd (false≢true (sym nay ∙ t .0))
-  full-of NoRoom o i t nay = ((i .0, i .1), i .2)
-
-  few-of : (d : Inserted) (o : One) → Told used m d o → o .new ≤ 1
-  few-of (New u) o t = omega (arith, t .1)
-  few-of Old o t = omega (arith, t .1)
-  few-of NoRoom o t = omega (arith, t .1)
+  full-of NoRoom o i t nay = i
 
   module _ (d : Inserted) (o : One) (a : Arena N b used l) (rt : Root (nodesIn N l) N root) (i : InsertedAs N b used root s l d l′) (t : Told used m d o) where
     pub member-of : o .ok ≡ true → mem s (members (nodesIn N l′) b root) ≡ true
-    member-of ok = ap (mem s) (became-of d o a rt i t ok .suffixes) ∙ mem-of-put s ms
+    member-of ok = ap (mem s) (became-of d o a rt i t ok .suffixes) ∙ put-there s ms
 
     pub now-root : o .ok ≡ true → Root (nodesIn N l′) N root
     now-root ok = became-of d o a rt i t ok .root
@@ -90,7 +85,6 @@ module _ (N b used root s m : ℕ) (l l′ : List ℕ) where
       above = w;
       full = λ nay. full-of d o i t nay .0;
       same = λ nay. full-of d o i t nay .1;
-      one = few-of d o t;
     }
 
     -- and where none is asked for
@@ -98,8 +92,8 @@ module _ (N b used root s m : ℕ) (l l′ : List ℕ) where
     took-none never = took (o .n) (λ ok h. absurd (never ok h))
 
 -- the node that the insert was told is the one above
-pub same-node : (v : Nodes) (b used root s m : ℕ) (d : Inserted) (o : One) → Told used m d o → Walked v root s b m (b - 2) → Walked v root s b (o .n) (b - 2)
-same-node v b used root s m d o t w = subst (λ (k : ℕ). Walked v root s b k (b - 2)) (sym (node-of d t)) w
+pub told-node : (v : Nodes) (b used root s m : ℕ) (d : Inserted) (o : One) → Told used m d o → Walked v root s b m (b - 2) → Walked v root s b (o .n) (b - 2)
+told-node v b used root s m d o t w = subst (λ (k : ℕ). Walked v root s b k (b - 2)) (sym (node-of d t)) w
   where
     node-of : (d : Inserted) → Told used m d o → o .n ≡ m
     node-of (New u) t = t .3
@@ -144,6 +138,9 @@ module _ (N b used root : ℕ) (ss l₀ l : List ℕ) (added left n i : ℕ) (g 
       full = λ _. subst (NoRoomFor N b left (getD ss i 0)) (g .became .suffixes) (t .full nay);
     }
 
+    pub new-few : o .ok ≡ true → o .new ≤ 1
+    new-few ok = one-new (getD ss i 0) (o .new) (members (nodesIn N l) b root) (members-ascend (nodesIn N l) b root) (t .grown ok)
+
     now-run : put (getD ss i 0) (members (nodesIn N l) b root) ≡ putEach (members (nodesIn N l₀) b root) (take (suc i) ss)
     now-run = ap (put (getD ss i 0)) (g .became .suffixes) ∙ sym (each-suc (members (nodesIn N l₀) b root) ss i h)
 
@@ -154,6 +151,6 @@ module _ (N b used root : ℕ) (ss l₀ l : List ℕ) (added left n i : ℕ) (g 
           became = subst (λ (ts : List ℕ). Became N b used l₀ root ts (o .used) l′) now-run
               (became-then N b used l₀ root run left l (put (getD ss i 0) (members (nodesIn N l) b root)) (o .used) l′ (g .became) (t .became ok));
           sum = omega (arith, g .sum, t .grown ok, ap length now-run, ap length (g .became .suffixes));
-          few = omega (arith, g .few, t .one);
+          few = omega (arith, g .few, new-few ok);
           above = λ _ two. let e : i ≡ suc i - 1 = omega arith in subst (λ (k : ℕ). Walked (nodesIn N l′) root (getD ss k 0) b (o .n) (b - 2)) e (t .above ok two);
         }

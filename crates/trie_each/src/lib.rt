@@ -23,7 +23,7 @@ pub struct Many {
     pub used: usize,
 }
 
-// How one suffix went: whether there was room, 1 if it was new and else 0, the nodes in use, and the node above it.
+// How one suffix went: whether there was room, 1 if it was new and else 0, the nodes in use, and, if there was room and b is 2 or more, the node above it.
 struct One {
     ok: bool,
     new: usize,
@@ -88,7 +88,7 @@ fn insert_from(
     Inserted::New(used + 1)
 }
 
-// Whether the suffix at place i differs from the one before it only in its last two bytes, and there is such a one.
+// True only if there is a suffix before place i, and the one at i has its bytes but for the last two.
 fn beside(suffixes: &[u64], b: usize, i: usize) -> bool
     requires { ⌜ i < length (now suffixes) ⌝ }
     ensures { λ r. ⌜ (r ≡ true → Beside b (now (suffixes .entry)) i) ⌝ }
@@ -102,7 +102,7 @@ fn beside(suffixes: &[u64], b: usize, i: usize) -> bool
     suffixes[i] >> 16 == suffixes[i - 1] >> 16
 }
 
-// What an insert's answer says, with the node above the suffix.
+// What an insert's answer says, with a node passed on.
 fn told(done: Inserted, used: usize, n: usize) -> One
     ensures { λ r. ⌜ Told used n done r ⌝ }
 {

@@ -44,7 +44,7 @@ module _ (N b used n s : ℕ) (l l′ : List ℕ) where
   not-old r e a m = absurd (false≢true (sym m ∙ subst (λ (q : Inserted). InsertedAs N b used n s l q l′) e a .0))
 
   pub not-full : (r : Inserted) → r ≡ NoRoom → InsertedAs N b used n s l r l′ → used + trieNodes b (put s ms) ≤ N + trieNodes b ms → Became N b used l n (put s ms) used l′
-  not-full r e a h = let z = subst (λ (q : Inserted). InsertedAs N b used n s l q l′) e a .1 in absurd (omega arith)
+  not-full r e a h = let z = subst (λ (q : Inserted). InsertedAs N b used n s l q l′) e a .0 .1 in absurd (omega arith)
 
 -- Room
 

@@ -1,6 +1,6 @@
 -- Members side by side that share a node of the last level: each but the last loses its bit there, and the node keeps the bit of the next. Assumes nothing.
 use Prim.Native.Nat.{ℕ, suc, _+_, _-_, _*_, _/_, _^_, _≤_, _<_}
-use mathlib.Core.Path.{_≡_, refl, sym, ap, ap₂, _∙_}
+use mathlib.Core.Path.{_≡_, refl, sym, ap, _∙_}
 use mathlib.Core.Bool.{true}
 use mathlib.Core.List.{List, _∷_}
 use native.Mathlib.Omega.{arith}
@@ -13,17 +13,13 @@ use Rattle.region.specs.Nodes.{Nodes}
 use Rattle.region.specs.Tries.{byteOf, members}
 use Rattle.region.specs.WellFormed.{NonEmpty}
 use Rattle.region.proofs.Bytes.{byte-lt, lead-same}
-use Rattle.region.proofs.Listing.{member-path, member-small}
+use Rattle.region.proofs.Listing.{member-small}
 use Rattle.arena.specs.Arena.{nodesIn}
 use Rattle.arena.specs.Changes.{SpareStays, BitMade}
 use Rattle.trie.specs.Walked.{Walked}
-use Rattle.trie.proofs.Lookup.{walked-as}
+use Rattle.trie.proofs.Lookup.{walked-as, next-bit}
 use Rattle.trie.proofs.Shrinking as shrinking
 use Rattle.trie_pour.proofs.Reaping.{Reaped, least, rest, reaped-more}
-
--- the bit where the leading bytes of a member lead is set
-pub next-bit : {v : Nodes} {root s b n j : ℕ} → Walked v root s b n j → mem s (members v b root) ≡ true → (x : ℕ) → x ≡ byteOf b s j → v .bit n x ≡ 1
-next-bit {v} {root} {s} {b} {n} {j} w m x e = ap₂ (v .bit) (w .at) e ∙ member-path v b root s m j (w .small)
 
 -- a member with the same leading bytes is in the same node
 same-node : {v : Nodes} {root s b n : ℕ} → Walked v root s b n (b - 1) → (t : ℕ) → t / 256 ≡ s / 256 → Walked v root t b n (b - 1)

@@ -284,10 +284,10 @@ module _ {l : List ℕ} {w p s : ℕ} (a : Parted l w p s) where
       put-done New l′ x = set-new (x .0) (sym added-put) (x .1)
       put-done Old l′ x = set-old (x .0) (x .1)
       put-done NoRoom l′ x =
-          set-full (x .0) (trieNodes (bytesOf (g .S)) held) (trieNodes (bytesOf (g .S)) (put s held))
+          set-full (x .0 .0) (trieNodes (bytesOf (g .S)) held) (trieNodes (bytesOf (g .S)) (put s held))
           (nodes-many (bytesOf (g .S)) held many)
-          (nodes-many (bytesOf (g .S)) (added s held) (omega (arith, many, longer (x .0))) ∙ ap (trieNodes (bytesOf (g .S))) added-put)
-          (x .1) (x .2)
+          (nodes-many (bytesOf (g .S)) (added s held) (omega (arith, many, longer (x .0 .0))) ∙ ap (trieNodes (bytesOf (g .S))) added-put)
+          (x .0 .1) (x .1)
 
     -- A vector
 

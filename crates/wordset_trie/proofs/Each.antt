@@ -1,15 +1,13 @@
 -- Puts of several suffixes in a trie of a region: the suffixes stay good, lengths and counts fit a word, and the region reads as it should. Assumes nothing.
 use Prim.Native.Nat.{ℕ, suc, _+_, _^_, _<_, _≤_}
-use mathlib.Core.Path.{_≡_, refl, sym, ap, _∙_, subst}
+use mathlib.Core.Path.{_≡_, sym, ap, _∙_, subst}
 use mathlib.Core.Bool.{true}
 use mathlib.Core.List.{List, [], _∷_}
 use native.Mathlib.Omega.{arith}
-use lib.Dec.{eqb}
 use lib.ListN.{length, take, getD}
 use lib.Seq.{length-take-le, getD-take}
-use borrow.Author.Tests.{eqb-true}
 use Rattle.lists.specs.Lists.{mem, one, put, Ascending}
-use Rattle.lists.proofs.Laws.{or-cases, mem-put, ascending-put, ascending-distinct}
+use Rattle.lists.proofs.Laws.{ascending-put, ascending-distinct}
 use Rattle.model.specs.Words.{bytesOf}
 use Rattle.model.specs.Good.{GoodSuffixes}
 use Rattle.region.specs.Areas.{Numbers, numbers}
@@ -20,38 +18,23 @@ use Rattle.region.specs.WellFormed.{Ready, WellFormed}
 use Rattle.arena.specs.Arena.{nodesIn, Became}
 use Rattle.steps.specs.Steps.{counted}
 use Rattle.trie_each.specs.declared.Many.{Many}
-use Rattle.trie_each.specs.Each.{putEach, NoRoomFor, InsertedEach}
+use Rattle.trie.specs.Answers.{NoRoomFor}
+use Rattle.trie_each.specs.Each.{putEach, InsertedEach}
 use Rattle.wordset_vector.proofs.Counting.{few-suffixes}
-use Rattle.wordset_trie.specs.declared.Outcome.the-variants.{NoRoom}
 use Rattle.wordset_trie.specs.Settled.{Settled}
-use Rattle.wordset_trie.specs.Answers.{PutAs, PutEach}
-use Rattle.wordset_trie.proofs.Lent.{lentOf, withLent, suffix-bits, held-is, ms-ascend, ms-small, ms-length, trie-many, given-ready, reads-with, numbers-after, held-after}
+use Rattle.wordset_trie.specs.Answers.{heldIn, FullFor, PutEach}
+use Rattle.wordset_trie.proofs.Lent.{lentOf, withLent, good-put, suffix-bits, held-is, ms-ascend, ms-small, ms-length, trie-many, given-ready, reads-with, numbers-after, held-after}
 
 -- Suffixes put one after the other
 
-ascending-each : (ms ss : List ℕ) → Ascending ms → Ascending (putEach ms ss)
-ascending-each ms [] a = a
-ascending-each ms (s ∷ ss) a = ascending-each (put s ms) ss (ascending-put s ms a)
-
-small-each : (M : ℕ) (ms ss : List ℕ) → ((t : ℕ) → mem t ms ≡ true → t < M) → ((i : ℕ) → i < length ss → getD ss i 0 < M) → (t : ℕ) → mem t (putEach ms ss) ≡ true → t < M
-small-each M ms [] below small t m = below t m
-small-each M ms (s ∷ ss) below small t m = small-each M (put s ms) ss
-    (λ u n. or-cases (eqb u s) (mem u ms) (sym (mem-put u s ms) ∙ n) (λ e. subst (λ (z : ℕ). z < M) (sym (eqb-true u s e)) (small 0 (omega arith))) (below u))
-    (λ i j. small (suc i) (omega arith)) t m
-
 good-each : (S : ℕ) (ms ss : List ℕ) → Ascending ms → ((t : ℕ) → mem t ms ≡ true → t < 2 ^ S) → ((i : ℕ) → i < length ss → getD ss i 0 < 2 ^ S) → GoodSuffixes S (putEach ms ss)
-good-each S ms ss a below small = record {
-  below = small-each (2 ^ S) ms ss below small;
-  distinct = ascending-distinct (putEach ms ss) (ascending-each ms ss a);
-  ordered = λ e. ascending-each ms ss a;
-}
+good-each S ms [] a below small = record { below = below; distinct = ascending-distinct ms a; ordered = λ e. a }
+good-each S ms (s ∷ ss) a below small = good-each S (put s ms) ss (ascending-put s ms a) (good-put S s ms a below (small 0 (omega arith)) .below) (λ i l. small (suc i) (omega arith))
 
--- the next one found no room in a region with these numbers and suffixes
-no-room : (c s : ℕ) (g : Numbers) (l′ ss : List ℕ) (k used count : ℕ) → numbers l′ ≡ counted g k used count → suffixes (numbers l′) (seen (numbers l′) l′) c ≡ ss → NoRoomFor (g .N) (bytesOf (g .S)) used s ss → PutAs c s l′ NoRoom l′
+-- the next one finds no room in a region with these numbers and suffixes
+no-room : (c s : ℕ) (g : Numbers) (l′ ss : List ℕ) (k used count : ℕ) → numbers l′ ≡ counted g k used count → heldIn c l′ ≡ ss → NoRoomFor (g .N) (bytesOf (g .S)) used s ss → FullFor c s l′
 no-room c s g l′ ss k used count en es x =
-    let y : NoRoomFor (numbers l′ .N) (bytesOf (numbers l′ .S)) (numbers l′ .used) s (suffixes (numbers l′) (seen (numbers l′) l′) c) =
-    subst (λ (a : List ℕ). NoRoomFor (numbers l′ .N) (bytesOf (numbers l′ .S)) (numbers l′ .used) s a) (sym es) (subst (λ (n : Numbers). NoRoomFor (n .N) (bytesOf (n .S)) (n .used) s ss) (sym en) x) in
-    (y .0, y .1, refl)
+    subst (NoRoomFor (numbers l′ .N) (bytesOf (numbers l′ .S)) (numbers l′ .used) s) (sym es) (subst (λ (n : Numbers). NoRoomFor (n .N) (bytesOf (n .S)) (n .used) s ss) (sym en) x)
 
 module _ (l : List ℕ) (wf : WellFormed l) (c : ℕ) (h : c < numbers l .C) (k : seen (numbers l) l .kind c ≡ 2) where
   abbrev g : Numbers

@@ -2,7 +2,7 @@
 use Prim.Native.Nat.{ℕ, _+_, _-_, _*_, _^_, _<_, _≤_}
 use mathlib.Core.Path.{_≡_, refl, sym, ap, _∙_, subst}
 use mathlib.Core.Bool.{true, not, _&&_}
-use mathlib.Core.List.{List, _++_}
+use mathlib.Core.List.{List, [], _∷_, _++_}
 use native.Mathlib.Omega.{arith}
 use lib.Dec.{eqb, leb}
 use lib.Pow.{pow-mono}
@@ -124,19 +124,19 @@ module _ (l : List ℕ) (wf : WellFormed l) (c : ℕ) (h : c < numbers l .C) (k 
   lent-ready = subst (λ (y : List ℕ). Arena (g .N) b (g .used) y × Root (nodesIn (g .N) y) (g .N) (v .link c)) (sym lent-is)
       (arena-of g (partsOf g l) (wf .shape) (sized (begin l (wf .ready))), root-of g (partsOf g l) (wf .shape) (sized (begin l (wf .ready))) c h k)
 
-  -- what an insert and a removal ask
-  pub asked : (root s : ℕ) → root ≡ v .link c → s < 2 ^ g .S
-      → Arena (g .N) b (g .used) (lentOf l) × (Root (nodesIn (g .N) (lentOf l)) (g .N) root × ((1 ≤ b) × ((b ≤ 5) × (s < 2 ^ (8 * b)))))
-  asked root s e small =
-      let p : 2 ^ g .S ≤ 2 ^ (8 * b) = pow-mono (omega arith) in
-      (lent-ready .0, (subst (λ (n : ℕ). Root (nodesIn (g .N) (lentOf l)) (g .N) n) (sym e) (lent-ready .1), (omega (arith, suffix-bits .0), (omega (arith, suffix-bits .1), omega arith))))
-
   -- what inserts of several suffixes ask
   pub asked-each : (root : ℕ) (ss : List ℕ) → root ≡ v .link c → ((i : ℕ) → i < length ss → getD ss i 0 < 2 ^ g .S)
       → Arena (g .N) b (g .used) (lentOf l) × (Root (nodesIn (g .N) (lentOf l)) (g .N) root × ((1 ≤ b) × ((b ≤ 5) × ((i : ℕ) → i < length ss → getD ss i 0 < 2 ^ (8 * b)))))
   asked-each root ss e small =
       let p : 2 ^ g .S ≤ 2 ^ (8 * b) = pow-mono (omega arith) in
       (lent-ready .0, (subst (λ (n : ℕ). Root (nodesIn (g .N) (lentOf l)) (g .N) n) (sym e) (lent-ready .1), (omega (arith, suffix-bits .0), (omega (arith, suffix-bits .1), λ i j. omega (arith, p, small i j)))))
+
+  -- what an insert and a removal ask
+  pub asked : (root s : ℕ) → root ≡ v .link c → s < 2 ^ g .S
+      → Arena (g .N) b (g .used) (lentOf l) × (Root (nodesIn (g .N) (lentOf l)) (g .N) root × ((1 ≤ b) × ((b ≤ 5) × (s < 2 ^ (8 * b)))))
+  asked root s e small =
+      let r = asked-each root (s ∷ []) e (λ i j. let z : i ≡ 0 = omega arith in subst (λ (n : ℕ). getD (s ∷ []) n 0 < 2 ^ g .S) (sym z) small) in
+      (r .0, (r .1 .0, (r .1 .1 .0, (r .1 .1 .1 .0, r .1 .1 .1 .1 0 (omega arith)))))
 
   given : (new : List ℕ) → length new ≡ g .N + nodeWords * g .N → Holding g (withArena (take (g .N) new) (drop (g .N) new) (partsOf g l)) l (withLent l new)
   given new long = give-arena (begin l (wf .ready)) (getD l 13 0) (getD l 15 0) new (wf .ready .header .node-stack) (wf .ready .header .total-length) long

@@ -7,7 +7,6 @@ use native.Mathlib.Omega.{arith}
 use lib.ListN.{length}
 use Rattle.lists.specs.Lists.{mem, put}
 use Rattle.model.specs.Words.{bytesOf}
-use Rattle.model.specs.Room.{trieNodes}
 use Rattle.model.proofs.ContainerLaws.{length-put-new}
 use Rattle.region.specs.Areas.{Numbers, numbers}
 use Rattle.region.specs.Tries.{members}
@@ -17,7 +16,7 @@ use Rattle.region.specs.WellFormed.{Ready, WellFormed}
 use Rattle.arena.specs.Arena.{nodesIn, Became}
 use Rattle.trie.specs.declared.Inserted.{Inserted}
 use Rattle.trie.specs.declared.Inserted.the-variants.{New, Old, NoRoom}
-use Rattle.trie.specs.Answers.{InsertedAs}
+use Rattle.trie.specs.Answers.{NoRoomFor, InsertedAs}
 use Rattle.wordset_trie.specs.Settled.{Settled}
 use Rattle.wordset_trie.specs.Answers.{ReadsWith}
 use Rattle.wordset_trie.proofs.Lent.{lentOf, withLent, good-put, held-is, ms-ascend, ms-small, ms-length, trie-many, given-ready, reads-with, unchanged}
@@ -65,7 +64,7 @@ module _ (l : List ℕ) (wf : WellFormed l) (c : ℕ) (h : c < numbers l .C) (k 
         let a = subst (λ (a : Inserted). InsertedAs (g .N) b (g .used) root s (lentOf l) a new) e i in
         (ap (mem s) (sym held) ∙ a .0, unchanged l wf c h k new (a .1))
 
-    pub put-full : o ≡ NoRoom → (mem s ms ≡ false) × (g .N + trieNodes b ms < g .used + trieNodes b (put s ms)) × (withLent l new ≡ l)
+    pub put-full : o ≡ NoRoom → NoRoomFor (g .N) b (g .used) s ms × (withLent l new ≡ l)
     put-full e =
         let a = subst (λ (a : Inserted). InsertedAs (g .N) b (g .used) root s (lentOf l) a new) e i in
-        (ap (mem s) (sym held) ∙ a .0, subst (λ (ss : List ℕ). g .N + trieNodes b ss < g .used + trieNodes b (put s ss)) held (a .1), unchanged l wf c h k new (a .2))
+        (subst (NoRoomFor (g .N) b (g .used) s) held (a .0), unchanged l wf c h k new (a .1))

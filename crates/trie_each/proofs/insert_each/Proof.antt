@@ -6,7 +6,7 @@ use borrow.Author.Needs.{needs}
 use borrow.Author.Tests.{not-true, not-false}
 use denote.Ref.{now}
 use lib.ListN.{length}
-use Rattle.trie_each.proofs.Running.{Held, begin, near, step, refuse, finish}
+use Rattle.trie_each.proofs.Running.{new-few, Held, begin, near, step, refuse, finish}
 use Rattle.trie_each.proofs.insert_each.Statement.{statement}
 use Rattle.trie_each.proofs.insert_each.Tie as tie
 
@@ -55,7 +55,8 @@ add-added : tie.Need-add-added Inv-loop μ-loop
 add-added c =
     let t = c .before .before .before .before .before in
     let h = t .before .before .before .before in
-    omega (arith, h .before .loop .inv .few, t .take-one .ensures .one, h .loop-test .taken, countable (h .before .before .before .before))
+    let few = new-few _ _ _ _ _ _ _ _ _ _ _ (h .before .loop .inv) (t .take-one .result) _ (h .loop-test .taken) (t .take-one .ensures) (not-false _ (c .before .if1 .left)) in
+    omega (arith, h .before .loop .inv .few, few, h .loop-test .taken, countable (h .before .before .before .before))
 
 add-i : tie.Need-add-i Inv-loop μ-loop
 add-i c = search needs

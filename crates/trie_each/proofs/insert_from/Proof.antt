@@ -86,7 +86,7 @@ same-length-3 c = search needs
 returns-3 : tie.Need-returns-3
 returns-3 c =
     let g = at (c .before .before .before .before) in
-    (full g (none (c .before)) (c .if3 .taken), g .walked)
+    (full g (none (c .before)) (omega (arith, c .if3 .taken)), g .walked)
 
 add-spare : tie.Need-add-spare
 add-spare c = search needs

@@ -4,7 +4,7 @@ use mathlib.Core.Bool.{false≢true}
 use native.Mathlib.Omega.{arith}
 use borrow.Author.Needs.{needs}
 use borrow.Author.Tests.{not-true, not-false}
-use Rattle.trie_each.proofs.Running.{member-of, now-root, now-arena, took, took-none, same-node}
+use Rattle.trie_each.proofs.Running.{member-of, now-root, now-arena, took, took-none, told-node}
 use Rattle.trie_each.proofs.take_one.Statement.{statement}
 use Rattle.trie_each.proofs.take_one.Tie as tie
 
@@ -29,7 +29,7 @@ returns c =
     let f = c .before .before .before in
     let z = f .before .before .before .before in
     took _ _ _ _ _ (z .args .n) _ _ (f .insert-from .result) (c .told .result) (z .pre .0) (z .pre .1 .0) (f .insert-from .ensures .0) (c .told .ensures) (c .told .result .n)
-    (λ _ _. same-node _ _ (z .args .used) _ _ (z .args .n) (f .insert-from .result) (c .told .result) (c .told .ensures) (f .insert-from .ensures .1))
+    (λ _ _. told-node _ _ (z .args .used) _ _ (z .args .n) (f .insert-from .result) (c .told .result) (c .told .ensures) (f .insert-from .ensures .1))
 
 insert-requires : tie.Need-insert-requires
 insert-requires c κs = let z = c .before .before .before .pre in (z .0, (z .1 .0, (z .1 .1 .0, (z .1 .1 .1 .0, z .1 .1 .1 .1 .0))))

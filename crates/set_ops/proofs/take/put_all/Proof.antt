@@ -58,14 +58,14 @@ returns-2 c =
     let reads = c .before .before .push-all .ensures in
     (vector-poured (at .pre .0) (at .args .c) (at .pre .1 .0) (one else) (at .args .suffixes .now) (at .pre .1 .1 .1) (omega (arith, size .size .ensures, c .before .before .before .before .if2 .taken)) reads, λ e. vector-stays (at .pre .0) (at .args .c) (at .pre .1 .0) (one else) (at .args .suffixes .now) (at .pre .1 .1 .1) (omega (arith, size .size .ensures, c .before .before .before .before .if2 .taken)) reads)
 
-put-each-requires : tie.Need-put-each-requires
-put-each-requires c κs = c .before .before .before .before .before .before .before .before .before .pre
+put-singly-requires : tie.Need-put-singly-requires
+put-singly-requires c κs = c .before .before .before .before .before .before .before .before .before .pre
 
 same-length-3 : tie.Need-same-length-3
 same-length-3 c = search needs
 
 returns-3 : tie.Need-returns-3
-returns-3 c = c .before .before .put-each .ensures
+returns-3 c = c .before .before .put-singly .ensures
 
 pub put-all-spec : {M : Type 1} → statement M
 put-all-spec =
@@ -80,6 +80,6 @@ put-all-spec =
     push-all-requires
     same-length-2
     returns-2
-    put-each-requires
+    put-singly-requires
     same-length-3
     returns-3)

@@ -5,8 +5,7 @@ use native.Mathlib.Omega.{arith}
 use borrow.Author.Needs.{needs}
 use Rattle.arena.specs.Arena.{nodesIn}
 use Rattle.trie.specs.Walked.{Walked}
-use Rattle.trie.proofs.Lookup.{start, there, more, is-byte}
-use Rattle.trie_pour.proofs.Thinning.{next-bit}
+use Rattle.trie.proofs.Lookup.{start, there, more, is-byte, next-bit}
 use Rattle.trie_pour.proofs.reap.leaf.Statement.{statement}
 use Rattle.trie_pour.proofs.reap.leaf.Tie as tie
 

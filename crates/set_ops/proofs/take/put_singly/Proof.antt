@@ -6,8 +6,8 @@ use lib.ListN.{length}
 use borrow.Author.Needs.{needs}
 use borrow.Author.Tests.{not-true, not-false}
 use Rattle.set_ops.proofs.TakeRest.{Resting, rest-start, rest-ready, rest-next, rest-halt, rest-end, rest-long}
-use Rattle.set_ops.proofs.take.put_each.Statement.{statement}
-use Rattle.set_ops.proofs.take.put_each.Tie as tie
+use Rattle.set_ops.proofs.take.put_singly.Statement.{statement}
+use Rattle.set_ops.proofs.take.put_singly.Tie as tie
 
 abbrev Inv-loop : tie.InvT-loop
 Inv-loop dest₀ c suffixes i₀ dest i = Resting c suffixes dest₀ dest i
@@ -61,8 +61,8 @@ same-length-2 c = rest-long (c .before .before .before .before .pre .0) (c .befo
 returns-2 : tie.Need-returns-2 Inv-loop μ-loop
 returns-2 c = (rest-end _ _ _ _ _ (c .before .loop .inv) (c .loop-test .left), λ z. c .before .loop .inv .bears)
 
-pub put-each-spec : {M : Type 1} → statement M
-put-each-spec =
+pub put-singly-spec : {M : Type 1} → statement M
+put-singly-spec =
     tie.close
     (tie.spec
     Inv-loop
