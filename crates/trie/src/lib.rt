@@ -1,6 +1,7 @@
 // Tries over the node arena (src/trie.rs of the Rust). `slots` is the number of node slots, `used` how many are in use, `b` the number of levels.
 ghost use mathlib.Core.Path.{_≡_};
-ghost use Prim.Native.Nat.{ℕ, _+_, _*_, _^_, _<_, _≤_};
+ghost use mathlib.Core.Bool.{true};
+ghost use Prim.Native.Nat.{_+_, _*_, _^_, _<_, _≤_};
 ghost use Rattle.lists.specs.Lists.{mem};
 ghost use Rattle.region.specs.Tries.{byteOf, members};
 ghost use Rattle.arena.specs.Arena.{nodesIn, Root, Tries, Arena};
@@ -50,6 +51,24 @@ fn descend(arena: &[u64], slots: usize, b: usize, root: usize, suffix: u64) -> S
         j += 1;
     }
     Spot { n, j }
+}
+
+// The node to which the first d bytes of a member lead. No bit is tested: those on the way to a member are set.
+pub fn lead(arena: &[u64], slots: usize, b: usize, root: usize, suffix: u64, d: usize) -> usize
+    requires { ⌜ Tries slots b (now arena) ⌝ }
+    requires { ⌜ Root (nodesIn slots (now arena)) slots root ⌝ }
+    requires { ⌜ b ≤ 5 ⌝ }
+    requires { ⌜ d < b ⌝ }
+    requires { ⌜ mem suffix (members (nodesIn slots (now arena)) b root) ≡ true ⌝ }
+    ensures { λ r. ⌜ Walked (nodesIn slots (now (arena .entry))) root suffix b r d ⌝ }
+{
+    let mut n = root;
+    let mut j: usize = 0;
+    while j < d {
+        n = read::child(arena, slots, n, byte(suffix, b, j)) as usize;
+        j += 1;
+    }
+    n
 }
 
 // Whether the suffix is a member of the trie with the root.

@@ -3,9 +3,7 @@ ghost use mathlib.Core.Path.{_≡_};
 ghost use mathlib.Core.Bool.{true};
 ghost use Prim.Native.Nat.{ℕ, _+_, _-_, _*_, _^_, _<_, _≤_};
 ghost use lib.ListN.{length, getD};
-ghost use Rattle.lists.specs.Lists.{mem};
-ghost use Rattle.region.specs.Tries.{members};
-ghost use Rattle.arena.specs.Arena.{nodesIn, Root, Tries, Arena};
+ghost use Rattle.arena.specs.Arena.{nodesIn, Root, Arena};
 ghost use Rattle.trie.specs.Walked.{Walked};
 ghost use Rattle.trie.specs.Answers.{InsertedAs};
 ghost use Rattle.trie_each.specs.Each.{InsertedEach};
@@ -15,6 +13,7 @@ use arena::write;
 use sliced_int::byte;
 use trie::Inserted;
 use trie::insert;
+use trie::lead;
 
 // How many suffixes were taken, how many of them were new, and the nodes in use afterwards.
 pub struct Many {
@@ -29,25 +28,6 @@ struct One {
     new: usize,
     used: usize,
     n: usize,
-}
-
-// The node to which all but the last two bytes of a member lead.
-fn above(arena: &[u64], slots: usize, b: usize, root: usize, suffix: u64) -> usize
-    requires { ⌜ Tries slots b (now arena) ⌝ }
-    requires { ⌜ Root (nodesIn slots (now arena)) slots root ⌝ }
-    requires { ⌜ 2 ≤ b ⌝ }
-    requires { ⌜ b ≤ 5 ⌝ }
-    requires { ⌜ suffix < 2 ^ (8 * b) ⌝ }
-    requires { ⌜ mem suffix (members (nodesIn slots (now arena)) b root) ≡ true ⌝ }
-    ensures { λ r. ⌜ Walked (nodesIn slots (now (arena .entry))) root suffix b r (b - 2) ⌝ }
-{
-    let mut n = root;
-    let mut j: usize = 0;
-    while j + 2 < b {
-        n = read::child(arena, slots, n, byte(suffix, b, j)) as usize;
-        j += 1;
-    }
-    n
 }
 
 // Inserts the suffix from node n on, to which all but its last two bytes lead. n stays that node.
@@ -163,7 +143,7 @@ fn take_one(
         ok: one.ok,
         new: one.new,
         used: one.used,
-        n: above(arena, slots, b, root, suffix),
+        n: lead(arena, slots, b, root, suffix, b - 2),
     }
 }
 

@@ -6,12 +6,11 @@ ghost use Prim.Native.Nat.{_+_, _-_, _/_, _<_, _≤_};
 ghost use lib.ListN.{length, take, drop, getD};
 ghost use Rattle.lists.specs.Lists.{mem, without};
 ghost use Rattle.region.specs.Tries.{members};
-ghost use Rattle.arena.specs.Arena.{nodesIn, Root, Tries, Arena, Became, Vanished};
-ghost use Rattle.trie.specs.Walked.{Walked};
-use arena::read;
+ghost use Rattle.arena.specs.Arena.{nodesIn, Root, Arena, Became, Vanished};
 use arena::write;
 use sliced_int::byte;
 use trie::Removed;
+use trie::lead;
 
 // Removes a member that is not the only one. Answers the nodes in use afterwards.
 fn one_less(
@@ -62,24 +61,6 @@ fn only_one(
     }
 }
 
-// The node of the last level that holds a member. No bit is tested: those on the way to a member are set.
-fn leaf(arena: &[u64], slots: usize, b: usize, root: usize, suffix: u64) -> usize
-    requires { ⌜ Tries slots b (now arena) ⌝ }
-    requires { ⌜ Root (nodesIn slots (now arena)) slots root ⌝ }
-    requires { ⌜ 1 ≤ b ⌝ }
-    requires { ⌜ b ≤ 5 ⌝ }
-    requires { ⌜ mem suffix (members (nodesIn slots (now arena)) b root) ≡ true ⌝ }
-    ensures { λ r. ⌜ Walked (nodesIn slots (now (arena .entry))) root suffix b r (b - 1) ⌝ }
-{
-    let mut n = root;
-    let mut j: usize = 0;
-    while j + 1 < b {
-        n = read::child(arena, slots, n, byte(suffix, b, j)) as usize;
-        j += 1;
-    }
-    n
-}
-
 // Removes the members from place i on that have the leading bytes of the one there, all but the last: they share a node, and it keeps a bit, so none is freed. Answers the place of that last one.
 fn thin(
     arena: &mut [u64],
@@ -103,7 +84,7 @@ fn thin(
     ensures inside { λ r. ⌜ r < n ⌝ }
     ensures became { λ r. ⌜ Became slots b used (now (arena .entry)) root (drop r (take n (now (out .entry)))) used (now (arena .exit)) ⌝ }
 {
-    let node = leaf(arena, slots, b, root, out[i]);
+    let node = lead(arena, slots, b, root, out[i], b - 1);
     let head = out[i] >> 8;
     let mut k = i;
     loop {

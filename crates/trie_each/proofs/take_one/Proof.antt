@@ -57,13 +57,13 @@ returns-3 c =
     let z = st t in
     took-none _ _ _ _ _ (z .args .root) _ _ (f .insert .result) (t .told2 .result) (z .pre .0) (z .pre .1 .0) (f .insert .ensures) (t .told2 .ensures) (λ ok h. omega (arith, c .if3 .taken))
 
-above-requires : tie.Need-above-requires
-above-requires c κs =
+lead-requires : tie.Need-lead-requires
+lead-requires c κs =
     let t = c .before .before .before .before in
     let f = t .before .before .before in
     let z = st t in
     let ok = not-false _ (c .before .before .if2 .left) in
-    (now-arena _ _ _ _ (z .args .suffix) (z .args .root) _ _ (f .insert .result) (t .told2 .result) (z .pre .0) (z .pre .1 .0) (f .insert .ensures) (t .told2 .ensures) ok .tries, (now-root _ _ _ _ (z .args .suffix) (z .args .root) _ _ (f .insert .result) (t .told2 .result) (z .pre .0) (z .pre .1 .0) (f .insert .ensures) (t .told2 .ensures) ok, (c .before .if3 .left, (z .pre .1 .1 .1 .0, (z .pre .1 .1 .1 .1 .0, member-of _ _ _ _ (z .args .suffix) (z .args .root) _ _ (f .insert .result) (t .told2 .result) (z .pre .0) (z .pre .1 .0) (f .insert .ensures) (t .told2 .ensures) ok)))))
+    (now-arena _ _ _ _ (z .args .suffix) (z .args .root) _ _ (f .insert .result) (t .told2 .result) (z .pre .0) (z .pre .1 .0) (f .insert .ensures) (t .told2 .ensures) ok .tries, (now-root _ _ _ _ (z .args .suffix) (z .args .root) _ _ (f .insert .result) (t .told2 .result) (z .pre .0) (z .pre .1 .0) (f .insert .ensures) (t .told2 .ensures) ok, (z .pre .1 .1 .1 .0, (omega (arith, c .before .if3 .left), member-of _ _ _ _ (z .args .suffix) (z .args .root) _ _ (f .insert .result) (t .told2 .result) (z .pre .0) (z .pre .1 .0) (f .insert .ensures) (t .told2 .ensures) ok))))
 
 same-length-4 : tie.Need-same-length-4
 same-length-4 c = search needs
@@ -73,7 +73,7 @@ returns-4 c =
     let t = c .before .before .before .before .before in
     let f = t .before .before .before in
     let z = st t in
-    took _ _ _ _ _ (z .args .root) _ _ (f .insert .result) (t .told2 .result) (z .pre .0) (z .pre .1 .0) (f .insert .ensures) (t .told2 .ensures) _ (λ _ _. c .above .ensures)
+    took _ _ _ _ _ (z .args .root) _ _ (f .insert .result) (t .told2 .result) (z .pre .0) (z .pre .1 .0) (f .insert .ensures) (t .told2 .ensures) _ (λ _ _. c .lead .ensures)
 
 pub take-one-spec : {M : Type 1} → statement M
 take-one-spec =
@@ -89,6 +89,6 @@ take-one-spec =
     returns-2
     same-length-3
     returns-3
-    above-requires
+    lead-requires
     same-length-4
     returns-4)

@@ -37,17 +37,20 @@ on c = let b = c .before .before .clear-bit in run-on (lp c .loop .inv) _ _ (c .
 same : (c : tie.After-slice-known2 Inv-loop μ-loop) → length (c .before .before .clear-bit .last .0) ≡ length (now (st c .args .arena))
 same c = c .before .before .clear-bit .kept .0 ∙ lp c .loop .inv .reaped .now .arena .tries .long ∙ sym (st c .pre .0 .tries .long)
 
-mul-leaf : tie.Need-mul-leaf Inv-loop μ-loop
-mul-leaf c = search needs
+mul-lead : tie.Need-mul-lead Inv-loop μ-loop
+mul-lead c = search needs
 
-shared-slice-read-leaf : tie.Need-shared-slice-read-leaf Inv-loop μ-loop
-shared-slice-read-leaf c = search needs
+shared-slice-read-lead : tie.Need-shared-slice-read-lead Inv-loop μ-loop
+shared-slice-read-lead c = search needs
 
-leaf-requires : tie.Need-leaf-requires Inv-loop μ-loop
-leaf-requires c κs =
+sub-lead : tie.Need-sub-lead Inv-loop μ-loop
+sub-lead c = search needs
+
+lead-requires : tie.Need-lead-requires Inv-loop μ-loop
+lead-requires c κs =
     let s = c .before .before .before .before in
     let z = s .pre in
-    (z .0 .tries, (z .1 .0, (z .1 .1 .0, (z .1 .1 .1 .0, least (entered s)))))
+    (z .0 .tries, (z .1 .0, (z .1 .1 .1 .0, (omega (arith, z .1 .1 .0), least (entered s)))))
 
 mul-head : tie.Need-mul-head Inv-loop μ-loop
 mul-head c = search needs
@@ -59,7 +62,7 @@ loop-holds : tie.Need-loop-holds Inv-loop μ-loop
 loop-holds c =
     let s = c .before .before .before .before .before .before in
     let z = s .pre in
-    run-start _ _ _ _ _ _ (now (s .args .out)) _ _ _ (entered s) (z .1 .1 .1 .1 .1 .0) (z .1 .1 .1 .1 .1 .1 .1) refl (c .before .leaf .ensures)
+    run-start _ _ _ _ _ _ (now (s .args .out)) _ _ _ (entered s) (z .1 .1 .1 .1 .1 .0) (z .1 .1 .1 .1 .1 .1 .1) refl (c .before .lead .ensures)
 
 mul-byte : tie.Need-mul-byte Inv-loop μ-loop
 mul-byte c = omega (arith, c .before .loop .inv .reaped .inside, c .before .loop .inv .reaped .long)
@@ -123,9 +126,10 @@ thin-spec =
     (tie.spec
     Inv-loop
     μ-loop
-    mul-leaf
-    shared-slice-read-leaf
-    leaf-requires
+    mul-lead
+    shared-slice-read-lead
+    sub-lead
+    lead-requires
     mul-head
     shared-slice-read-head
     loop-holds
