@@ -18,7 +18,7 @@ use Rattle.region.specs.Geometry.{node_words}
 use Rattle.region.specs.Nodes.{Nodes}
 use Rattle.region.specs.WellFormed.{nodes_used}
 use Rattle.arena.specs.Arena.{Arena, nodes_in, spare_in}
-use Rattle.arena_check.specs.Checks.{OwnOk, Hangs, Tallied, below_root, inner, branches, set_bits, roots_in, last_bits}
+use Rattle.arena_check.specs.Checks.{OwnOk, Hangs, Tallied, below_root, inner, branches, set_bits, roots_in}
 use Rattle.lists.proofs.Matching.{sum_step}
 use Rattle.arena_check.proofs.Maps.{set-few}
 use Rattle.arena_check.proofs.Both.{arena-of, even-of}

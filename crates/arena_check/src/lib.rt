@@ -1,6 +1,8 @@
 // Whether the words of an arena are well formed, on any contents: one pass over the nodes, no marks, nothing changed.
 // A free node names its stack place, a node below a root its parent's bit, no two the same one: so if there are as many
 // such nodes as places and bits, each place and each bit has its node, and neither the stack nor the children are walked.
+#![tactic(auto)]
+
 ghost use Rattle.std.specs.Prelude.{◌≡◌, true, false, cond, ℕ, ◌+◌, ◌-◌, ◌*◌, ◌<◌, ◌≤◌, min, eqb, length};
 ghost use Rattle.lists.specs.Lists.{one};
 ghost use Rattle.region.specs.Geometry.{node_words};
@@ -16,7 +18,7 @@ use bitvector::tiny::TinyBitvector;
 const BLOCK: usize = 32;
 
 // What the check of an arena says. Sound holds how many roots there are, and how many bits the maps of the last level have.
-#[derive(Drop)]
+#[derive(Clone, Copy)]
 pub enum Verdict {
     Malformed,
     Sound(usize, usize),
@@ -24,7 +26,7 @@ pub enum Verdict {
 
 // Whether the nodes so far keep what they must by their own words, how many roots there are among them, and how many bits
 // want a child or are at the last level.
-#[derive(Drop)]
+#[derive(Clone, Copy)]
 struct Tally {
     ok: bool,
     roots: usize,

@@ -5,5 +5,4 @@ pub mod Search
 pub mod Four
 pub mod Taking
 pub mod Loaded
-pub mod WordsLent
 pub mod Walking

@@ -5,27 +5,27 @@ ghost use Rattle.bitvector.specs.Maps.{Made, NextSet, Popped, WalkedInto, WordWa
 
 use super::{Next, bitmap, word};
 
-#[derive(Drop)]
+#[derive(Clone, Copy)]
 pub struct TinyBitvector {
     pub w: [u64; 4],
 }
 
 // The map after an insert, and whether the byte was absent before.
-#[derive(Drop)]
+#[derive(Clone, Copy)]
 pub struct Inserted {
     pub map: TinyBitvector,
     pub absent: bool,
 }
 
 // The map after a remove, and whether the byte was present before.
-#[derive(Drop)]
+#[derive(Clone, Copy)]
 pub struct Removed {
     pub map: TinyBitvector,
     pub present: bool,
 }
 
 // The least byte, and the map of the bytes after it.
-#[derive(Drop)]
+#[derive(Clone, Copy)]
 pub struct First {
     pub at: Next,
     pub rest: TinyBitvector,

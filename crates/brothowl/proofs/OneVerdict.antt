@@ -12,7 +12,7 @@ use Rattle.promises.specs.AllMembers.{AllPromise}
 use Rattle.promises.specs.Walk.{WalkPromise}
 use Rattle.promises.specs.Combine.{CombinePromise}
 use Rattle.promises.specs.Keys.{PackPromise, UnpackPromise}
-use Rattle.promises.proofs.Determine.{make-determines, check-determines, all-determines, walk-determines, pack-determines, unpack-determines, list-determines, SameList, combine-determines, SameCombination}
+use Rattle.promises.proofs.Determine.{make-determines, check-determines, all-determines, walk-determines, pack-determines, unpack-determines, list-determines, combine-determines}
 use Rattle.brothowl.specs.Verdicts.{verdict_of, pack_verdict, unpack_verdict, ask_verdict, walk_verdict, Crosses}
 use Rattle.brothowl.specs.declared.making.Verdict.{Verdict}
 use Rattle.brothowl.specs.declared.preview.PackVerdict.{PackVerdict}

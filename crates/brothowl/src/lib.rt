@@ -1,4 +1,6 @@
-// The library that users link: every exported entry, over the proved crates. No entry has a `requires`.
+// Every entry of the library, over the proved crates; `brothowl_c` exports them. No entry has a `requires`.
+#![tactic(auto)]
+
 pub mod making;
 pub mod preview;
 pub mod sets;

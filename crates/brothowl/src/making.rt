@@ -6,14 +6,13 @@ use promises::Made;
 
 // A refusal's number and place; 0 and 0 where there is none.
 #[repr(C)]
-#[derive(Drop)]
+#[derive(Clone, Copy)]
 pub struct Verdict {
     pub number: u64,
     pub place: u64,
 }
 
-#[unsafe(no_mangle)]
-pub extern "C" fn brothowl_make(region: &mut [u64], p: u64, s: u64, c: u64, n: u64) -> Verdict
+pub fn brothowl_make(region: &mut [u64], p: u64, s: u64, c: u64, n: u64) -> Verdict
     ensures { Crosses verdict_of (λ told. MakePromise p s c n region.old told region.new) result }
 {
     match make::make(region, p, s, c, n) {

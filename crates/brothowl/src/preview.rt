@@ -8,7 +8,7 @@ use promises::{Card, Fields, Folder, Frame, Kind, Packed, Rollover, Unpacked};
 
 // number 0 and place 0: packed, with its key. Else the refusal's number and place, and key 0.
 #[repr(C)]
-#[derive(Drop)]
+#[derive(Clone, Copy)]
 pub struct PackVerdict {
     pub number: u64,
     pub place: u64,
@@ -17,7 +17,7 @@ pub struct PackVerdict {
 
 // number 0 and place 0: unpacked, with its fields. Else the refusal's number and place, and all fields 0.
 #[repr(C)]
-#[derive(Drop)]
+#[derive(Clone, Copy)]
 pub struct UnpackVerdict {
     pub number: u64,
     pub place: u64,
@@ -28,14 +28,7 @@ pub struct UnpackVerdict {
     pub kind: u64,
 }
 
-#[unsafe(no_mangle)]
-pub extern "C" fn brothowl_pack(
-    card: u64,
-    rollover: u64,
-    folder: u64,
-    frame: u64,
-    kind: u64,
-) -> PackVerdict
+pub fn brothowl_pack(card: u64, rollover: u64, folder: u64, frame: u64, kind: u64) -> PackVerdict
     ensures { Crosses pack_verdict (PackPromise (fields_are card rollover folder frame kind)) result }
 {
     let f = Fields {
@@ -59,8 +52,7 @@ pub extern "C" fn brothowl_pack(
     }
 }
 
-#[unsafe(no_mangle)]
-pub extern "C" fn brothowl_unpack(word: u64) -> UnpackVerdict
+pub fn brothowl_unpack(word: u64) -> UnpackVerdict
     ensures { Crosses unpack_verdict (UnpackPromise word) result }
 {
     match keys::unpack(word) {

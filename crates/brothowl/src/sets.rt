@@ -11,7 +11,7 @@ use promises::{Asked, Checked, Combined, Listed, Walked};
 
 // number 0 and place 0: asked, and all is 1 if all words are members. Else the refusal's number and place, and 0.
 #[repr(C)]
-#[derive(Drop)]
+#[derive(Clone, Copy)]
 pub struct AskVerdict {
     pub number: u64,
     pub place: u64,
@@ -20,15 +20,14 @@ pub struct AskVerdict {
 
 // number 0 and place 0: walked, with how many words were written. Else the refusal's number and place, and 0.
 #[repr(C)]
-#[derive(Drop)]
+#[derive(Clone, Copy)]
 pub struct WalkVerdict {
     pub number: u64,
     pub place: u64,
     pub written: u64,
 }
 
-#[unsafe(no_mangle)]
-pub extern "C" fn brothowl_check(region: &[u64]) -> Verdict
+pub fn brothowl_check(region: &[u64]) -> Verdict
     ensures { Crosses verdict_of (CheckPromise region.now) result }
 {
     match inspect::check(region) {
@@ -43,13 +42,7 @@ pub extern "C" fn brothowl_check(region: &[u64]) -> Verdict
     }
 }
 
-#[unsafe(no_mangle)]
-pub extern "C" fn brothowl_list(
-    region: &mut [u64],
-    codes: &[u8],
-    words: &[u64],
-    answers: &mut [u8],
-) -> Verdict
+pub fn brothowl_list(region: &mut [u64], codes: &[u8], words: &[u64], answers: &mut [u8]) -> Verdict
     ensures { Crosses verdict_of (λ told. ListPromise region.old codes.now words.now answers.old told region.new answers.new) result }
 {
     match wordset_list::list(region, codes, words, answers) {
@@ -80,8 +73,7 @@ pub extern "C" fn brothowl_list(
     }
 }
 
-#[unsafe(no_mangle)]
-pub extern "C" fn brothowl_all_members(region: &[u64], words: &[u64]) -> AskVerdict
+pub fn brothowl_all_members(region: &[u64], words: &[u64]) -> AskVerdict
     ensures { Crosses ask_verdict (AllPromise region.now words.now) result }
 {
     match wordset_list::all_members(region, words) {
@@ -113,8 +105,7 @@ pub extern "C" fn brothowl_all_members(region: &[u64], words: &[u64]) -> AskVerd
     }
 }
 
-#[unsafe(no_mangle)]
-pub extern "C" fn brothowl_walk(region: &[u64], start: u64, output: &mut [u64]) -> WalkVerdict
+pub fn brothowl_walk(region: &[u64], start: u64, output: &mut [u64]) -> WalkVerdict
     ensures { Crosses walk_verdict (λ told. WalkPromise region.now start output.old told output.new) result }
 {
     match wordset_walk::walk(region, start, output) {
@@ -136,13 +127,7 @@ pub extern "C" fn brothowl_walk(region: &[u64], start: u64, output: &mut [u64]) 
     }
 }
 
-#[unsafe(no_mangle)]
-pub extern "C" fn brothowl_combine(
-    code: u64,
-    a: &[u64],
-    b: &[u64],
-    destination: &mut [u64],
-) -> Verdict
+pub fn brothowl_combine(code: u64, a: &[u64], b: &[u64], destination: &mut [u64]) -> Verdict
     ensures { Crosses verdict_of (λ told. CombinePromise code a.now b.now destination.old told destination.new) result }
 {
     match set_ops::combine(code, a, b, destination) {

@@ -1,5 +1,7 @@
 // The region check: yes exactly when a slice of words is a well-formed region, on any slice of any length and contents.
 // The order is that of what each test leans on: the header, the slots, the nodes, then what the containers hold.
+#![tactic(auto)]
+
 ghost use Rattle.std.specs.Prelude.{◌≡◌, true, false, ◌≤◌, length};
 ghost use Rattle.model.specs.Words.{bytes_of};
 ghost use Rattle.model.specs.Reading.{walk};

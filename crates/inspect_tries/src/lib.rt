@@ -1,4 +1,6 @@
 // The check of the tries, where the nodes hang together: each container of kind 2 has its root, its length and its suffixes, and each root has its container.
+#![tactic(auto)]
+
 ghost use Rattle.std.specs.Prelude.{◌≡◌, true, false, ℕ, ◌+◌, ◌-◌, ◌*◌, ◌^◌, ◌<◌, ◌≤◌, length};
 ghost use Rattle.model.specs.Words.{bytes_of};
 ghost use Rattle.region.specs.Geometry.{node_words};

@@ -1,4 +1,6 @@
 // The check of the vectors: 1 to 1,024 distinct suffixes below 2^S, on any contents. Only a vector's first entries are looked at, as many as its length says.
+#![tactic(auto)]
+
 ghost use Rattle.std.specs.Prelude.{◌≡◌, true, false, ℕ, ◌^◌, ◌<◌, ◌≤◌, ltb};
 ghost use Rattle.lists.specs.Lists.{all, Ascending, Distinct};
 ghost use Rattle.region.specs.Areas.{numbers};

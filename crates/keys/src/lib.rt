@@ -1,4 +1,6 @@
 // Preview keys of document 01: pack five fields into a word of 40 bits, and unpack them. The fields' types and the answers are of `promises`.
+#![tactic(auto)]
+
 mod layout;
 mod range;
 

@@ -1,5 +1,5 @@
 -- What the checks of a call give to what it calls. Assumes nothing.
-use Rattle.std.proofs.Common.{◌≡◌, ℕ, ◌+◌, ◌-◌, ◌*◌, ◌^◌, ◌<◌, ◌≤◌, Bool, true, ltb, List, length, get_or, take, drop, replicate, sym, ap, ◌∙◌, subst, arith, get_or-drop, get_or-take, ltb-true}
+use Rattle.std.proofs.Common.{◌≡◌, ℕ, ◌+◌, ◌-◌, ◌*◌, ◌^◌, ◌<◌, ◌≤◌, Bool, true, ltb, List, length, get_or, drop, replicate, sym, ◌∙◌, subst, arith, get_or-drop, get_or-take, ltb-true}
 use lib.ListN.{length-replicate, get_or-replicate}
 use borrow.Rule.Slice.PartMut.{mid_of, mid_len}
 use Rattle.lists.specs.Lists.{all, sorted}

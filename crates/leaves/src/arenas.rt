@@ -15,7 +15,7 @@ const NO_ROOM: u64 = u64::MAX - 1;
 
 // The root of a new trie, REFUSED or NO_ROOM if there is none, and the nodes in use.
 #[repr(C)]
-#[derive(Drop)]
+#[derive(Clone, Copy)]
 pub struct Built {
     pub root: u64,
     pub used: u64,
@@ -23,7 +23,7 @@ pub struct Built {
 
 // How many suffixes were written, REFUSED if the trie was not poured out, and the nodes in use.
 #[repr(C)]
-#[derive(Drop)]
+#[derive(Clone, Copy)]
 pub struct Poured {
     pub written: u64,
     pub used: u64,
@@ -97,8 +97,7 @@ fn plantable(strip: &[u64], b: u64) -> bool
 }
 
 // 1 if the arena is well formed, else 0.
-#[unsafe(no_mangle)]
-pub extern "C" fn leaf_arena_check(arena: &[u64], slots: u64, used: u64, b: u64) -> u64 {
+pub fn leaf_arena_check(arena: &[u64], slots: u64, used: u64, b: u64) -> u64 {
     if !measured(arena, slots, b) {
         return REFUSED;
     }
@@ -147,8 +146,7 @@ fn ask(
 }
 
 // Whether the trie with the root has each suffix, 1 or 0, and how many were asked.
-#[unsafe(no_mangle)]
-pub extern "C" fn leaf_trie_ask(
+pub fn leaf_trie_ask(
     arena: &[u64],
     slots: u64,
     used: u64,
@@ -179,8 +177,7 @@ pub extern "C" fn leaf_trie_ask(
 }
 
 // How many suffixes the trie with the root has.
-#[unsafe(no_mangle)]
-pub extern "C" fn leaf_trie_count(arena: &[u64], slots: u64, used: u64, b: u64, root: u64) -> u64 {
+pub fn leaf_trie_count(arena: &[u64], slots: u64, used: u64, b: u64, root: u64) -> u64 {
     if !rooted(arena, slots, used, b, root) {
         return REFUSED;
     }
@@ -188,8 +185,7 @@ pub extern "C" fn leaf_trie_count(arena: &[u64], slots: u64, used: u64, b: u64, 
 }
 
 // The suffixes of the trie with the root, ascending, from the one with number `start` on, and how many found room.
-#[unsafe(no_mangle)]
-pub extern "C" fn leaf_trie_walk(
+pub fn leaf_trie_walk(
     arena: &[u64],
     slots: u64,
     used: u64,
@@ -212,8 +208,7 @@ pub extern "C" fn leaf_trie_walk(
 }
 
 // The same from the first suffix, so many times: how many were written in all, modulo 2^64.
-#[unsafe(no_mangle)]
-pub extern "C" fn leaf_trie_walks(
+pub fn leaf_trie_walks(
     arena: &[u64],
     slots: u64,
     used: u64,
@@ -236,8 +231,7 @@ pub extern "C" fn leaf_trie_walks(
 }
 
 // A trie made of 1 to 1,025 different suffixes, under a container.
-#[unsafe(no_mangle)]
-pub extern "C" fn leaf_trie_build(
+pub fn leaf_trie_build(
     arena: &mut [u64],
     slots: u64,
     used: u64,
@@ -277,8 +271,7 @@ pub extern "C" fn leaf_trie_build(
 }
 
 // The suffixes of the trie with the root, ascending; its nodes are freed, the root too. Refused if they do not all find room.
-#[unsafe(no_mangle)]
-pub extern "C" fn leaf_trie_pour(
+pub fn leaf_trie_pour(
     arena: &mut [u64],
     slots: u64,
     used: u64,
@@ -339,8 +332,7 @@ fn cross(
 }
 
 // So many times a trie made of the strip and poured out again, and how many times there was room.
-#[unsafe(no_mangle)]
-pub extern "C" fn leaf_trie_cross(
+pub fn leaf_trie_cross(
     arena: &mut [u64],
     slots: u64,
     used: u64,

@@ -5,8 +5,7 @@ use super::{REFUSED, number};
 use bitvector::bitmap;
 
 // How many bits below each place are set, summed.
-#[unsafe(no_mangle)]
-pub extern "C" fn leaf_bitmap_rank(words: &[u64], places: &[u64]) -> u64 {
+pub fn leaf_bitmap_rank(words: &[u64], places: &[u64]) -> u64 {
     let mut n: u64 = 0;
     let mut i: usize = 0;
     while i < places.len() {
@@ -21,8 +20,7 @@ pub extern "C" fn leaf_bitmap_rank(words: &[u64], places: &[u64]) -> u64 {
 }
 
 // How many of the places are set.
-#[unsafe(no_mangle)]
-pub extern "C" fn leaf_bitmap_test(words: &[u64], places: &[u64]) -> u64 {
+pub fn leaf_bitmap_test(words: &[u64], places: &[u64]) -> u64 {
     let mut n: u64 = 0;
     let mut i: usize = 0;
     while i < places.len() {
@@ -39,8 +37,7 @@ pub extern "C" fn leaf_bitmap_test(words: &[u64], places: &[u64]) -> u64 {
 }
 
 // Sets the bit, and says whether it was clear.
-#[unsafe(no_mangle)]
-pub extern "C" fn leaf_bitmap_set(words: &mut [u64], place: u64) -> u64 {
+pub fn leaf_bitmap_set(words: &mut [u64], place: u64) -> u64 {
     let i = place as usize;
     if i / 64 >= words.len() {
         return REFUSED;
@@ -49,8 +46,7 @@ pub extern "C" fn leaf_bitmap_set(words: &mut [u64], place: u64) -> u64 {
 }
 
 // Clears the bit, and says whether it was set.
-#[unsafe(no_mangle)]
-pub extern "C" fn leaf_bitmap_clear(words: &mut [u64], place: u64) -> u64 {
+pub fn leaf_bitmap_clear(words: &mut [u64], place: u64) -> u64 {
     let i = place as usize;
     if i / 64 >= words.len() {
         return REFUSED;

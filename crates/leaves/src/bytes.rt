@@ -18,8 +18,7 @@ fn put(s: u64, b: usize, out: &mut [u8])
 }
 
 // The b bytes of each suffix, one behind the other, and how many suffixes found room.
-#[unsafe(no_mangle)]
-pub extern "C" fn leaf_bytes(suffixes: &[u64], b: u64, out: &mut [u8]) -> u64 {
+pub fn leaf_bytes(suffixes: &[u64], b: u64, out: &mut [u8]) -> u64 {
     if b > 5 {
         return REFUSED;
     }
@@ -38,8 +37,7 @@ pub extern "C" fn leaf_bytes(suffixes: &[u64], b: u64, out: &mut [u8]) -> u64 {
 }
 
 // The number that the b bytes of a suffix are.
-#[unsafe(no_mangle)]
-pub extern "C" fn leaf_value(s: u64, b: u64) -> u64 {
+pub fn leaf_value(s: u64, b: u64) -> u64 {
     if b > 5 {
         return REFUSED;
     }
@@ -47,8 +45,7 @@ pub extern "C" fn leaf_value(s: u64, b: u64) -> u64 {
 }
 
 // 0 if the bytes of s come before those of t, 1 if they are the same, 2 if they come after.
-#[unsafe(no_mangle)]
-pub extern "C" fn leaf_compare(s: u64, t: u64, b: u64) -> u64 {
+pub fn leaf_compare(s: u64, t: u64, b: u64) -> u64 {
     if b > 5 {
         return REFUSED;
     }

@@ -6,8 +6,7 @@ use bitvector::Next;
 use bitvector::tiny::{TinyBitvector, contains_in, insert_in, remove_in};
 
 // How many of the bytes are in the map, one that comes twice twice.
-#[unsafe(no_mangle)]
-pub extern "C" fn leaf_map_contains(map: &[u64], xs: &[u8]) -> u64 {
+pub fn leaf_map_contains(map: &[u64], xs: &[u8]) -> u64 {
     if map.len() != 4 {
         return REFUSED;
     }
@@ -35,13 +34,7 @@ fn change(w: &mut [u64; 4], code: u8, x: u8) -> u8 {
 }
 
 // The commands in order, each with its answer; the map is written once, at the end.
-#[unsafe(no_mangle)]
-pub extern "C" fn leaf_map_change(
-    map: &mut [u64],
-    codes: &[u8],
-    xs: &[u8],
-    answers: &mut [u8],
-) -> u64 {
+pub fn leaf_map_change(map: &mut [u64], codes: &[u8], xs: &[u8], answers: &mut [u8]) -> u64 {
     if map.len() != 4 {
         return REFUSED;
     }
@@ -62,8 +55,7 @@ pub extern "C" fn leaf_map_change(
 }
 
 // Inserts a byte of xs and removes one of ys, in turn, and says how many did something.
-#[unsafe(no_mangle)]
-pub extern "C" fn leaf_map_pairs(map: &mut [u64], xs: &[u8], ys: &[u8]) -> u64 {
+pub fn leaf_map_pairs(map: &mut [u64], xs: &[u8], ys: &[u8]) -> u64 {
     if map.len() != 4 {
         return REFUSED;
     }
@@ -87,8 +79,7 @@ pub extern "C" fn leaf_map_pairs(map: &mut [u64], xs: &[u8], ys: &[u8]) -> u64 {
 }
 
 // The ranks of the bytes, summed.
-#[unsafe(no_mangle)]
-pub extern "C" fn leaf_map_rank(map: &[u64], xs: &[u8]) -> u64 {
+pub fn leaf_map_rank(map: &[u64], xs: &[u8]) -> u64 {
     if map.len() != 4 {
         return REFUSED;
     }
@@ -103,8 +94,7 @@ pub extern "C" fn leaf_map_rank(map: &[u64], xs: &[u8]) -> u64 {
 }
 
 // The counts of maps that stand one behind the other, summed; words past the last whole map do not count.
-#[unsafe(no_mangle)]
-pub extern "C" fn leaf_map_count(maps: &[u64]) -> u64 {
+pub fn leaf_map_count(maps: &[u64]) -> u64 {
     let mut n: u64 = 0;
     let mut at: usize = 0;
     while at + 4 <= maps.len() {
@@ -115,8 +105,7 @@ pub extern "C" fn leaf_map_count(maps: &[u64]) -> u64 {
 }
 
 // The bytes of the map, ascending, and how many.
-#[unsafe(no_mangle)]
-pub extern "C" fn leaf_map_walk(map: &[u64], out: &mut [u8]) -> u64 {
+pub fn leaf_map_walk(map: &[u64], out: &mut [u8]) -> u64 {
     if map.len() != 4 {
         return REFUSED;
     }
@@ -127,8 +116,7 @@ pub extern "C" fn leaf_map_walk(map: &[u64], out: &mut [u8]) -> u64 {
 }
 
 // The least byte of the map at or past `from`; 256 if there is none.
-#[unsafe(no_mangle)]
-pub extern "C" fn leaf_map_next(map: &[u64], from: u64) -> u64 {
+pub fn leaf_map_next(map: &[u64], from: u64) -> u64 {
     if map.len() != 4 {
         return REFUSED;
     }
@@ -139,8 +127,7 @@ pub extern "C" fn leaf_map_next(map: &[u64], from: u64) -> u64 {
 }
 
 // 1 if the map has no byte, else 0.
-#[unsafe(no_mangle)]
-pub extern "C" fn leaf_map_is_empty(map: &[u64]) -> u64 {
+pub fn leaf_map_is_empty(map: &[u64]) -> u64 {
     if map.len() != 4 {
         return REFUSED;
     }

@@ -10,14 +10,14 @@ use trie::{Inserted, Removed};
 
 // How many commands were done, REFUSED if none could be, and the nodes in use.
 #[repr(C)]
-#[derive(Drop)]
+#[derive(Clone, Copy)]
 pub struct Ran {
     pub done: u64,
     pub used: u64,
 }
 
 // Whether the trie is still there to go on with, what the command answered, and the nodes in use.
-#[derive(Drop)]
+#[derive(Clone, Copy)]
 struct Step {
     on: bool,
     answer: u8,
@@ -173,8 +173,7 @@ pub(crate) fn is_arena(arena: &[u64], slots: usize, used: usize, b: usize) -> bo
 
 // Commands on the trie with the root, each with its answer: 2 is no room, or the last suffix gone, and ends the row.
 // So does a suffix that has more than b bytes, which is not done.
-#[unsafe(no_mangle)]
-pub extern "C" fn leaf_trie_run(
+pub fn leaf_trie_run(
     arena: &mut [u64],
     slots: u64,
     used: u64,

@@ -2,6 +2,8 @@
 // what is asked below an entry is checked here. A region that is not well formed, or lengths that do not fit, are refused by REFUSED,
 // with nothing written; a list with a bad code or word is not begun, and what the lists before it did stays.
 // One check, then any number of commands or walks, so that a clock can tell them apart.
+#![tactic(auto)]
+
 ghost use Rattle.std.specs.Prelude.{◌≡◌, ◌+◌, ◌<◌, ◌≤◌, length};
 ghost use Rattle.region.specs.Ranges.{longest};
 ghost use Rattle.region.specs.WellFormed.{WellFormed};
@@ -49,13 +51,7 @@ fn run_list(region: &mut [u64], codes: &[u8], words: &[u64], answers: &mut [u8])
 
 // Commands on a region, in lists of at most 4,096 one after the other, as a caller of the exported entry would, but with one check for all:
 // how many were done. A list that is not good, or finds no room, ends them.
-#[unsafe(no_mangle)]
-pub extern "C" fn leaf_set_run(
-    region: &mut [u64],
-    codes: &[u8],
-    words: &[u64],
-    answers: &mut [u8],
-) -> u64 {
+pub fn leaf_set_run(region: &mut [u64], codes: &[u8], words: &[u64], answers: &mut [u8]) -> u64 {
     if !well_formed(region) {
         return REFUSED;
     }
@@ -78,8 +74,7 @@ pub extern "C" fn leaf_set_run(
 }
 
 // Walks a region from its start so many times: how many words were written in all, modulo 2^64.
-#[unsafe(no_mangle)]
-pub extern "C" fn leaf_set_walk(region: &[u64], times: u64, out: &mut [u64]) -> u64 {
+pub fn leaf_set_walk(region: &[u64], times: u64, out: &mut [u64]) -> u64 {
     if !well_formed(region) {
         return REFUSED;
     }

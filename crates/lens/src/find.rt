@@ -7,7 +7,7 @@ ghost use Rattle.lens.specs.Found.{FoundAs, MetAs};
 use super::{rank, read};
 
 // Where a prefix's container stands, or that it has none.
-#[derive(Drop)]
+#[derive(Clone, Copy)]
 pub enum Place {
     At(usize),
     Nowhere,

@@ -74,7 +74,7 @@ pub fn any_set(region: &[u64], words: &[u64]) -> bool
 }
 
 // The least prefix, and how far the greatest is from it: at least 1.
-#[derive(Drop)]
+#[derive(Clone, Copy)]
 struct Reach {
     low: usize,
     width: usize,

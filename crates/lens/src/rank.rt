@@ -19,7 +19,7 @@ const WHOLE: usize = 3;
 pub(crate) const MANY: usize = 64;
 
 // Where the rank of a prefix lies: from low to high.
-#[derive(Drop)]
+#[derive(Clone, Copy)]
 pub struct Window {
     pub low: usize,
     pub high: usize,

@@ -6,10 +6,10 @@ use mathlib.Core.List.{List, [], ◌∷◌, ◌++◌, map}
 use Prim.Native.Nat.{ℕ, zero, suc, ◌+◌, ◌≤◌, ◌<◌}
 use native.Mathlib.Omega.{arith}
 use native.Mathlib.Decide.{ℕ_discrete}
-use lib.Dec.{eqb, ltb, leb}
+use lib.Dec.{eqb, ltb}
 use lib.ListN.{length}
-use borrow.Author.Tests.{ltb-true, ltb-false, eqb-true, eqb-false, eq-eqb, ne_eqb, lt-ltb, le-ltb, leb-true, le-leb}
-use Rattle.lists.specs.Lists.{one, mem, keep, without, put, sorted, different, Over, Ascending, Distinct, Within, SameMembers}
+use borrow.Author.Tests.{ltb-true, ltb-false, eqb-true, eqb-false, eq-eqb, ne_eqb}
+use Rattle.lists.specs.Lists.{mem, keep, without, put, sorted, different, Over, Ascending, Distinct, Within, SameMembers}
 use Rattle.lists.specs.Sums.{sum, sum_over}
 
 -- Tests

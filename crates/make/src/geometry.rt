@@ -1,6 +1,6 @@
 // The numbers of a region and where its areas lie.
 ghost use Rattle.std.specs.Prelude.{true, ◌≡◌, ◌≤◌};
-ghost use Rattle.lists.specs.Lists.{between as isBetween};
+ghost use Rattle.lists.specs.Lists.{between as is_between};
 ghost use Rattle.region.specs.Ranges.{good_numbers};
 ghost use Rattle.region.specs.Geometry.{bitmap_words};
 ghost use Rattle.make.specs.Laid.{GeometryOf};
@@ -16,7 +16,7 @@ pub const STRIP_WORDS: usize = 1024;
 pub const NODE_WORDS: usize = 264;
 
 // The numbers, the first word of each area after the bitmap (which follows the header), and the length of the whole.
-#[derive(Drop)]
+#[derive(Clone, Copy)]
 pub struct Geometry {
     pub p: u64,
     pub s: u64,
@@ -71,7 +71,7 @@ pub fn bitmap_words(p: u64) -> usize
 }
 
 fn between(low: u64, high: u64, x: u64) -> bool
-    ensures { result ≡ isBetween low high x }
+    ensures { result ≡ is_between low high x }
 {
     if x < low {
         return false;

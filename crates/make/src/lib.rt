@@ -1,4 +1,6 @@
 // Makes a region: the fresh image of document 01 at the front of a lent slice, or a refusal that changes nothing.
+#![tactic(auto)]
+
 ghost use Rattle.promises.specs.Answers.{made};
 ghost use Rattle.promises.specs.Make.{MakePromise};
 

@@ -1,27 +1,27 @@
 -- Demand 2 for combinations, and their refusal for room. Assumes nothing.
 use mathlib.Core.Path.{◌≡◌, refl, sym, ap, ◌∙◌, subst}
-use mathlib.Core.Bool.{Bool, true, false, cond, not, ◌&&◌, ◌||◌, true≢false, false≢true}
-use mathlib.Core.List.{List, [], ◌∷◌, ◌++◌, map}
-use Prim.Native.Nat.{ℕ, zero, suc, ◌+◌, ◌*◌, ◌^◌, ◌≤◌, ◌<◌}
+use mathlib.Core.Bool.{Bool, true, false, not, ◌&&◌, ◌||◌, true≢false, false≢true}
+use mathlib.Core.List.{List, [], ◌∷◌}
+use Prim.Native.Nat.{ℕ, zero, suc, ◌+◌, ◌*◌, ◌^◌, ◌<◌}
 use native.Mathlib.Omega.{arith}
 use native.Mathlib.Decide.{ℕ_discrete}
 use lib.Arith.{digits_lt}
 use lib.Pow.{pow-add}
 use lib.Dec.{eqb, ltb, leb}
 use lib.ListN.{length}
-use borrow.Author.Tests.{eqb-true, eqb-false, eq-eqb, ne_eqb, lt-ltb, le-ltb, le-leb, lt-leb, ltb-true, ltb-false, leb-true, leb-false}
-use Rattle.lists.specs.Lists.{Distinct, Every, SameMembers, Within, keep, mem, one, up_from, sorted, different}
+use borrow.Author.Tests.{eqb-true, eq-eqb, ne_eqb, lt-ltb, le-leb, lt-leb, ltb-true, leb-true, leb-false}
+use Rattle.lists.specs.Lists.{Distinct, Every, SameMembers, keep, mem, up_from, sorted, different}
 use Rattle.model.specs.Combine.{Op, chosen, combine, from_a, from_b, inserting}
 use Rattle.model.specs.Combine.Op.{Or, And, Minus, Xor}
-use Rattle.model.specs.Commands.{Code, Command, Run, run}
-use Rattle.model.specs.Commands.Code.{Insert, Lookup, Remove}
-use Rattle.model.specs.Demands.{AsPlain, CombinedAsPlain, WalkAsPlain, WordsInRange, Kept, carried, inserted}
+use Rattle.model.specs.Commands.{Command, Run, run}
+use Rattle.model.specs.Commands.Code.{Insert}
+use Rattle.model.specs.Demands.{AsPlain, CombinedAsPlain, WalkAsPlain, WordsInRange, inserted}
 use Rattle.model.specs.Good.{Good, GoodContainer}
 use Rattle.model.specs.Plain.{PlainSet, plain_op, plain_combine, plain_end, plain_step}
-use Rattle.model.specs.Reading.{Container, Reading, count, empty, has, prefixes_of, under, walk}
+use Rattle.model.specs.Reading.{Container, Reading, count, empty, has, prefixes_of, walk}
 use Rattle.model.specs.Room.{containers_needed, fits, nodes_needed}
 use Rattle.model.specs.Words.{joined, prefix_of, suffix_of}
-use Rattle.lists.proofs.Laws.{by-test, or-false, or_left, or_right, or_swap, or_cases, and_both, both-and, iff-eq, not-true-false, eqb-self, eqb-sym, mem-append, mem-keep, mem-sorted, distinct-sorted, length-same}
+use Rattle.lists.proofs.Laws.{by-test, or-false, or_left, or_right, or_cases, both-and, eqb-self, mem-append, mem-keep, mem-sorted, distinct-sorted, length-same}
 use Rattle.model.proofs.RoomLaws.{fits-same}
 use Rattle.model.proofs.ContainerLaws.{joined-parts, suffix-lt, under_none}
 use Rattle.model.proofs.Steps.{has-is, walk-distinct}

@@ -1,24 +1,23 @@
 -- Containers: what lies under a prefix, the words of some containers, and what placing and dropping a container leaves. Assumes nothing.
 use mathlib.Core.Path.{◌≡◌, refl, sym, ap, ◌∙◌, subst}
-use mathlib.Core.Logic.{◌≢◌}
-use mathlib.Core.Bool.{Bool, true, false, cond, not, ◌&&◌, ◌||◌, true≢false, false≢true}
-use mathlib.Core.List.{List, [], ◌∷◌, ◌++◌, map}
-use Prim.Native.Nat.{ℕ, zero, suc, ◌+◌, ◌*◌, ◌/◌, ◌%◌, ◌^◌, ◌≤◌, ◌<◌}
+use mathlib.Core.Bool.{Bool, true, false, cond, not, ◌&&◌, ◌||◌, false≢true}
+use mathlib.Core.List.{List, [], ◌∷◌, map}
+use Prim.Native.Nat.{ℕ, suc, ◌^◌, ◌<◌}
 use native.Mathlib.Omega.{arith}
 use native.Mathlib.Nat.{div-add-mod', mod-lt}
 use native.Mathlib.Decide.{ℕ_discrete}
 use lib.Arith.{digits_div, digits_mod}
 use lib.Pow.{pow_pos}
-use lib.Dec.{eqb, ltb, leb}
-use lib.ListN.{length, length-append, length-map}
-use borrow.Author.Tests.{ltb-true, ltb-false, eqb-true, eqb-false, eq-eqb, ne_eqb, lt-ltb, le-ltb}
-use Rattle.lists.specs.Lists.{Ascending, Distinct, Every, Over, SameMembers, Within, keep, mem, put, sorted, without}
-use Rattle.model.specs.Change.{dropped, is_none, placed, slot_of}
+use lib.Dec.{eqb, ltb}
+use lib.ListN.{length, length-map}
+use borrow.Author.Tests.{ltb-true, eqb-true, eq-eqb, ne_eqb}
+use Rattle.lists.specs.Lists.{Ascending, Distinct, Every, SameMembers, mem, put, sorted, without}
+use Rattle.model.specs.Change.{dropped, placed, slot_of}
 use Rattle.model.specs.Good.{GoodContainer, GoodSuffixes}
 use Rattle.model.specs.Reading.{Container, container_words, prefixes_of, slots_of, under, words_of}
 use Rattle.model.specs.Room.{prefixes}
 use Rattle.model.specs.Words.{joined, prefix_of, suffix_of}
-use Rattle.lists.proofs.Laws.{or-false, or_swap, or_same, or_left, or_right, or_cases, or-none, none_or, and_both, both-and, iff-eq, not-true-false, by-test, eqb-self, eqb-sym, mem-append, mem-map, mem-put, mem-sorted, mem-without, Source, source, over-not-mem, over-mem, ascending-put, ascending-sorted, ascending-unique, length-same, distinct-keep, distinct_append, distinct-map, ascending-distinct}
+use Rattle.lists.proofs.Laws.{or-false, or_swap, or_left, or_cases, or-none, and_both, both-and, iff-eq, by-test, eqb-self, eqb-sym, mem-append, mem-map, mem-put, mem-sorted, mem-without, source, over-not-mem, over-mem, ascending-put, ascending-sorted, ascending-unique, length-same, distinct-keep, distinct_append, distinct-map, ascending-distinct}
 
 -- Words and their parts
 

@@ -1,23 +1,23 @@
 -- For whoever keeps the numbers in a region: nodes in use container by container, and slots named once. Assumes nothing.
 use mathlib.Core.Path.{◌≡◌, refl, sym, ap, ap₂, ◌∙◌, subst}
-use mathlib.Core.Bool.{Bool, true, false, cond, not, ◌&&◌, ◌||◌, true≢false, false≢true}
+use mathlib.Core.Bool.{Bool, true, false, not, ◌&&◌, false≢true}
 use mathlib.Core.List.{List, [], ◌∷◌, ◌++◌, map}
 use Prim.Native.Nat.{ℕ, zero, suc, ◌+◌, ◌^◌, ◌≤◌, ◌<◌}
 use native.Mathlib.Omega.{arith}
 use lib.Dec.{eqb, ltb, leb}
 use lib.ListN.{length, length-append, length-map}
-use borrow.Author.Tests.{eqb-true, eqb-false, eq-eqb, ne_eqb, lt-ltb, ltb-true, leb-true}
-use Rattle.lists.specs.Lists.{Ascending, Distinct, Every, Over, SameMembers, Within, keep, mem, one, put, sorted, up_from, without}
+use borrow.Author.Tests.{eqb-true, eq-eqb, ne_eqb, lt-ltb, ltb-true, leb-true}
+use Rattle.lists.specs.Lists.{Ascending, Distinct, Every, SameMembers, Within, keep, mem, one, put, up_from, without}
 use Rattle.lists.specs.Sums.{sum_over}
 use Rattle.model.specs.Change.{added, is_none, placed, top}
 use Rattle.model.specs.Good.{Good, GoodContainer}
 use Rattle.model.specs.Reading.{Container, Reading, has, nodes_in_use, prefixes_of, slots_of, under, walk, words_of}
-use Rattle.model.specs.Room.{container_nodes, containers_needed, fits, nodes_needed, prefixes, suffixes_under}
+use Rattle.model.specs.Room.{container_nodes, containers_needed, fits, nodes_needed, suffixes_under}
 use Rattle.model.specs.Words.{bytes_of, joined, prefix_of, suffix_of}
 use Rattle.lists.proofs.Laws.{or_cases, or_left, or_right, and_both, both-and, iff-eq, by-test, not-true-false, eqb-self, eqb-sym, mem-map, mem-keep, mem-sorted, mem-without, source, over-mem, mem-over, over-trans, over-not-mem, ascending-distinct, distinct-sorted, distinct-keep, length-within, same-within, same-sym}
 use Rattle.model.proofs.RoomLaws.{container-within, nodes-same, fits-same}
 use Rattle.model.proofs.ContainerLaws.{prefix-joined, suffix-joined, mem-words_of, prefixes-words, under_none, under_some, each-under, length-containers, length-put-new, length-put-old}
-use Rattle.model.proofs.Steps.{Replaced, prefixes-are, is_none-some, containers⁺, insert-new, replaced⁺, members-insert}
+use Rattle.model.proofs.Steps.{prefixes-are, is_none-some, containers⁺, insert-new, replaced⁺, members-insert}
 use Rattle.model.proofs.Combining.{mem-up_from, length-up_from}
 
 -- Nodes

@@ -1,25 +1,23 @@
 -- Demand 3: rearranged command lists come to the same, and where all words fit together none stops. Assumes nothing.
 use mathlib.Core.Path.{◌≡◌, refl, sym, ap, ◌∙◌, subst}
-use mathlib.Core.Bool.{Bool, true, false, cond, not, ◌&&◌, ◌||◌, true≢false, false≢true}
-use mathlib.Core.List.{List, [], ◌∷◌, ◌++◌, map, nil≢cons, cons≢nil, head-eq_of_cons-eq, tail-eq_of_cons-eq}
-use Prim.Native.Nat.{ℕ, zero, suc, ◌+◌, ◌^◌, ◌≤◌, ◌<◌}
-use native.Mathlib.Omega.{arith}
-use lib.Dec.{eqb, ltb, leb}
-use lib.ListN.{length}
-use borrow.Author.Tests.{eqb-true, eqb-false, eq-eqb, ne_eqb}
-use Rattle.lists.specs.Lists.{Distinct, SameMembers, Within, keep, mem, one}
-use Rattle.model.specs.Commands.{Code, Command, Run, answer, changed, has_room, is_insert, is_remove, run}
+use mathlib.Core.Bool.{Bool, true, false, not}
+use mathlib.Core.List.{List, [], ◌∷◌, ◌++◌, nil≢cons, cons≢nil, head-eq_of_cons-eq, tail-eq_of_cons-eq}
+use Prim.Native.Nat.{ℕ, ◌+◌}
+use lib.Dec.{eqb}
+use borrow.Author.Tests.{eqb-true}
+use Rattle.lists.specs.Lists.{SameMembers, Within, keep, mem}
+use Rattle.model.specs.Commands.{Code, Command, Run, answer, changed, has_room, is_insert, run}
 use Rattle.model.specs.Commands.Code.{Insert, Lookup, Remove}
-use Rattle.model.specs.Demands.{AsPlain, Demand3OnReadings, WordsInRange, Kept, Moved, Rearranged, SameRun, answered, answers_on, carried, inserted, on}
+use Rattle.model.specs.Demands.{AsPlain, Demand3OnReadings, WordsInRange, Kept, Moved, Rearranged, SameRun, answers_on, inserted, on}
 use Rattle.model.specs.Demands.Moved.{next, none}
 use Rattle.model.specs.Good.{Good}
 use Rattle.model.specs.Plain.{PlainSet, after, plain_answers, plain_end, plain_step}
-use Rattle.model.specs.Reading.{Reading, containers_in_use, count, has, nodes_in_use, walk}
+use Rattle.model.specs.Reading.{Reading, count, has, nodes_in_use, walk}
 use Rattle.model.specs.Room.{containers_needed, fits, nodes_needed}
-use Rattle.lists.proofs.Laws.{by-test, or_left, or_right, or_cases, and_both, eqb-self, eqb-sym, mem-append, length-same}
-use Rattle.model.proofs.RoomLaws.{fits-within, fits-same, containers-same, nodes-same}
+use Rattle.lists.proofs.Laws.{by-test, or_left, or_right, or_cases, and_both, eqb-self, mem-append, length-same}
+use Rattle.model.proofs.RoomLaws.{fits-within, containers-same, nodes-same}
 use Rattle.model.proofs.Steps.{walk-distinct, containers-are, members-insert, members-remove}
-use Rattle.model.proofs.Runs.{kept-changed, members-changed, good-changed, run_on, goes_on, in-range, as_plain, good-run}
+use Rattle.model.proofs.Runs.{kept-changed, good-changed, run_on, in-range, as_plain, good-run}
 
 -- One word alone: a set's answers to the commands on a word, and whether it has the word in the end, depend on those commands alone
 

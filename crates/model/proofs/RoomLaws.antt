@@ -1,14 +1,13 @@
 -- Room depends on the set of members alone, and a part of a set takes no more than the set. Assumes nothing.
-use mathlib.Core.Path.{◌≡◌, refl, sym, ap, ◌∙◌}
-use mathlib.Core.Bool.{Bool, true, false, cond, ◌&&◌}
-use mathlib.Core.List.{List, [], ◌∷◌, map}
-use Prim.Native.Nat.{ℕ, zero, suc, ◌+◌, ◌-◌, ◌/◌, ◌^◌, ◌≤◌, ◌<◌}
+use mathlib.Core.Path.{◌≡◌, refl}
+use mathlib.Core.Bool.{Bool, true, false, cond}
+use mathlib.Core.List.{List, map}
+use Prim.Native.Nat.{ℕ, ◌-◌, ◌/◌, ◌^◌, ◌≤◌}
 use native.Mathlib.Omega.{arith}
-use lib.Dec.{eqb, ltb, leb}
+use lib.Dec.{eqb, leb}
 use lib.ListN.{length}
-use borrow.Author.Tests.{ltb-true, ltb-false, lt-ltb, leb-true, le-leb}
-use Rattle.lists.specs.Lists.{Distinct, SameMembers, Within, different, keep, mem, sorted}
-use Rattle.lists.specs.Sums.{sum, sum_over}
+use borrow.Author.Tests.{ltb-true, lt-ltb, leb-true, le-leb}
+use Rattle.lists.specs.Lists.{Distinct, SameMembers, Within, keep}
 use Rattle.model.specs.Room.{container_nodes, containers_needed, fits, is_trie, leading, nodes_needed, prefixes, suffixes_under, threshold, trie_nodes}
 use Rattle.model.specs.Words.{bytes_of, prefix_of, suffix_of}
 use Rattle.lists.proofs.Laws.{and_both, both-and, iff-eq, map-within, keep-within, sorted-within, distinct-sorted, sum-within, sum-le, below-le, length-within, different-within, same-within, same-sym}

@@ -1,21 +1,20 @@
 -- Demand 2 for command lists. Assumes nothing.
 use mathlib.Core.Path.{◌≡◌, refl, sym, ap, ◌∙◌, subst, fun_ext}
-use mathlib.Core.Bool.{Bool, true, false, cond, not, ◌&&◌, ◌||◌, true≢false, false≢true}
-use mathlib.Core.List.{List, [], ◌∷◌, ◌++◌, map}
-use Prim.Native.Nat.{ℕ, zero, suc, ◌+◌, ◌^◌, ◌≤◌, ◌<◌}
+use mathlib.Core.Bool.{Bool, true, false, cond, not, ◌&&◌, true≢false, false≢true}
+use mathlib.Core.List.{List, [], ◌∷◌}
+use Prim.Native.Nat.{ℕ, suc, ◌+◌, ◌^◌, ◌<◌}
 use native.Mathlib.Omega.{arith}
-use lib.Dec.{eqb, ltb, leb}
+use lib.Dec.{eqb}
 use lib.ListN.{length}
-use borrow.Author.Tests.{eqb-true, eqb-false, eq-eqb, ne_eqb}
-use Rattle.lists.specs.Lists.{Distinct, SameMembers, Within, keep, mem, one}
-use Rattle.model.specs.Change.{insert, is_none, remove, taken, with}
+use borrow.Author.Tests.{eqb-true}
+use Rattle.lists.specs.Lists.{SameMembers, mem, one}
+use Rattle.model.specs.Change.{insert, is_none, remove, taken}
 use Rattle.model.specs.Commands.{Code, Command, Run, answer, changed, has_room, is_insert, is_remove, run}
 use Rattle.model.specs.Commands.Code.{Insert, Lookup, Remove}
-use Rattle.model.specs.Demands.{AsPlain, WordsInRange, Kept, StoppedForRoom, answered, carried}
+use Rattle.model.specs.Demands.{AsPlain, WordsInRange, Kept, StoppedForRoom, carried}
 use Rattle.model.specs.Good.{Good}
 use Rattle.model.specs.Plain.{after, plain_answers, plain_end, plain_step}
-use Rattle.model.specs.Reading.{Container, Reading, count, has, under, walk}
-use Rattle.model.specs.Room.{fits}
+use Rattle.model.specs.Reading.{Reading, count, has, under, walk}
 use Rattle.model.specs.Words.{prefix_of, suffix_of}
 use Rattle.lists.proofs.Laws.{by-test, eqb-self, eqb-sym, length-same}
 use Rattle.model.proofs.Steps.{walk-distinct, insert-old, remove-none, members-insert, good-insert, members-remove, good-remove}

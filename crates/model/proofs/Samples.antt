@@ -8,7 +8,7 @@ use Rattle.lists.specs.Sums.{sum}
 use Rattle.model.specs.Words.{suffix_of}
 use Rattle.model.specs.Room.{is_trie, trie_nodes, container_nodes, containers_needed, nodes_needed, fits}
 use Rattle.model.specs.Reading.{Reading, walk, has, slots_of, empty}
-use Rattle.model.specs.Change.{added, taken, insert, remove}
+use Rattle.model.specs.Change.{taken, insert, remove}
 use Rattle.model.specs.Commands.{Run, commands, run}
 use Rattle.model.specs.Combine.{op_of, inserting, chosen, combine}
 

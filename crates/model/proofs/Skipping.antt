@@ -1,13 +1,13 @@
 -- Words that are members may be left out of a list of inserts: "or" may take all of b, or b's words that a lacks. Assumes nothing.
-use mathlib.Core.Path.{◌≡◌, refl, sym, ap, ◌∙◌, subst}
-use mathlib.Core.Bool.{Bool, true, false, cond, not, ◌||◌}
-use mathlib.Core.List.{List, [], ◌∷◌, map}
-use Prim.Native.Nat.{ℕ, ◌+◌, ◌^◌, ◌<◌}
+use mathlib.Core.Path.{◌≡◌, refl, ◌∙◌}
+use mathlib.Core.Bool.{Bool, true, false, not}
+use mathlib.Core.List.{List, [], ◌∷◌}
+use Prim.Native.Nat.{ℕ, ◌+◌}
 use lib.Dec.{eqb}
 use Rattle.lists.specs.Lists.{keep, mem}
 use Rattle.model.specs.Change.{insert}
 use Rattle.model.specs.Combine.{inserting}
-use Rattle.model.specs.Commands.{Code, Command, Run, has_room, run}
+use Rattle.model.specs.Commands.{Command, Run, has_room, run}
 use Rattle.model.specs.Commands.Code.{Insert}
 use Rattle.model.specs.Demands.{WordsInRange}
 use Rattle.model.specs.Good.{Good}

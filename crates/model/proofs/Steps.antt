@@ -1,22 +1,20 @@
 -- Insert and remove keep a reading good, and change the members as a plain set's do. Assumes nothing.
 use mathlib.Core.Path.{◌≡◌, refl, sym, ap, ◌∙◌, subst}
-use mathlib.Core.Logic.{◌≢◌}
 use mathlib.Core.Bool.{Bool, true, false, cond, not, ◌&&◌, ◌||◌, true≢false, false≢true}
-use mathlib.Core.List.{List, [], ◌∷◌, ◌++◌, map}
-use Prim.Native.Nat.{ℕ, zero, suc, ◌+◌, ◌*◌, ◌/◌, ◌%◌, ◌^◌, ◌≤◌, ◌<◌}
+use mathlib.Core.List.{List, [], ◌∷◌, ◌++◌}
+use Prim.Native.Nat.{ℕ, suc, ◌+◌, ◌^◌, ◌≤◌, ◌<◌}
 use native.Mathlib.Omega.{arith}
-use native.Mathlib.Decide.{ℕ_discrete}
 use lib.Pow.{shr_lt}
 use lib.Dec.{eqb, ltb, leb}
 use lib.ListN.{length}
-use borrow.Author.Tests.{eqb-true, eqb-false, eq-eqb, ne_eqb, leb-true}
-use Rattle.lists.specs.Lists.{Ascending, Distinct, Every, Over, SameMembers, Within, keep, mem, one, put, without}
+use borrow.Author.Tests.{eqb-true, eq-eqb, leb-true}
+use Rattle.lists.specs.Lists.{Ascending, Distinct, Every, mem, put}
 use Rattle.model.specs.Change.{added, dropped, insert, is_none, placed, remove, rest, slot_of, taken, top, with}
 use Rattle.model.specs.Good.{Good, GoodContainer, GoodSuffixes}
-use Rattle.model.specs.Reading.{Container, Reading, containers_in_use, count, has, prefixes_of, slots_of, under, walk, words_of}
+use Rattle.model.specs.Reading.{Container, Reading, containers_in_use, has, prefixes_of, slots_of, under, walk, words_of}
 use Rattle.model.specs.Room.{containers_needed, fits, nodes_needed, prefixes}
 use Rattle.model.specs.Words.{joined, prefix_of, suffix_of}
-use Rattle.lists.proofs.Laws.{or-false, or_swap, or_assoc, or_left, or_right, or_cases, and_both, both-and, iff-eq, not-true-false, by-test, eqb-self, eqb-sym, mem-append, mem-put, mem-some, ascending-put, ascending-keep, ascending-distinct, length-same}
+use Rattle.lists.proofs.Laws.{or_swap, or_assoc, or_left, and_both, both-and, iff-eq, by-test, eqb-self, eqb-sym, mem-append, mem-some, ascending-put, ascending-keep, ascending-distinct}
 use Rattle.model.proofs.RoomLaws.{fits-within, fits-same}
 use Rattle.model.proofs.StoredLaws.{mem-taken, good-taken, mem-added, good-added}
 use Rattle.model.proofs.ContainerLaws.{joined-parts, suffix-lt, under_none, each-under, under_some, mem-words_of, distinct-words_of, prefixes-placed, under-placed, each_placed, prefixes-dropped, under-dropped, each-dropped, slots-placed-old, slots-placed-new, slots-dropped, length-containers, length-put-new, length-put-old, length_without, prefixes-words}

@@ -1,19 +1,18 @@
 -- The stored order of a container's suffixes: what insert and remove leave. Assumes nothing.
 use mathlib.Core.Path.{◌≡◌, refl, sym, ap, ◌∙◌, subst}
-use mathlib.Core.Logic.{◌≢◌}
-use mathlib.Core.Bool.{Bool, true, false, cond, not, ◌&&◌, ◌||◌, true≢false, false≢true}
-use mathlib.Core.List.{List, [], ◌∷◌, ◌++◌, map}
-use Prim.Native.Nat.{ℕ, zero, suc, ◌+◌, ◌^◌, ◌≤◌, ◌<◌}
+use mathlib.Core.Bool.{Bool, true, false, not, ◌&&◌, ◌||◌, false≢true}
+use mathlib.Core.List.{List, [], ◌∷◌, ◌++◌}
+use Prim.Native.Nat.{ℕ, ◌^◌, ◌≤◌, ◌<◌}
 use native.Mathlib.Omega.{arith}
 use native.Mathlib.Decide.{ℕ_discrete}
-use lib.Dec.{eqb, ltb, leb}
+use lib.Dec.{eqb}
 use lib.ListN.{length, length-append}
-use borrow.Author.Tests.{ltb-true, ltb-false, eqb-true, eqb-false, eq-eqb, ne_eqb, lt-ltb, le-ltb}
-use Rattle.lists.specs.Lists.{Ascending, Distinct, Over, SameMembers, Within, keep, mem, put, sorted, without}
+use borrow.Author.Tests.{ltb-true, eqb-true, eq-eqb, ne_eqb, lt-ltb, le-ltb}
+use Rattle.lists.specs.Lists.{Ascending, Distinct, Within, mem, put, sorted}
 use Rattle.model.specs.Change.{added, last_first, second, settled, swap_out, taken}
 use Rattle.model.specs.Good.{GoodSuffixes}
 use Rattle.model.specs.Room.{is_trie, threshold}
-use Rattle.lists.proofs.Laws.{or-false, or_swap, or_left, or_right, or_cases, or-none, none_or, and_both, not-true-false, by-test, eqb-self, eqb-sym, mem-append, mem-without, mem-put, mem-sorted, ascending-put, ascending-sorted, ascending-unique, ascending-keep, distinct-sorted, distinct_append, distinct-keep, length-within, length-same}
+use Rattle.lists.proofs.Laws.{or-false, or_swap, or_cases, or-none, none_or, and_both, by-test, eqb-sym, mem-append, mem-without, mem-put, mem-sorted, ascending-put, ascending-sorted, ascending-unique, ascending-keep, distinct-sorted, distinct_append, distinct-keep, length-within}
 
 -- Swapping out
 

@@ -1,5 +1,5 @@
 -- Demands 2 and 3 of the request, on readings: what a run and a combination are to be, over the plain set. Assumes nothing.
-use Rattle.std.specs.Prelude.{◌≡◌, Bool, true, false, cond, not, List, [], ◌∷◌, ◌++◌, map, ℕ, ◌+◌, ◌^◌, ◌<◌, eqb, length, take, drop}
+use Rattle.std.specs.Prelude.{◌≡◌, Bool, true, false, cond, not, List, [], ◌∷◌, ◌++◌, map, ℕ, ◌+◌, ◌^◌, ◌<◌, eqb, take, drop}
 use Rattle.lists.specs.Lists.{mem, keep, different, Distinct, Every}
 use Rattle.model.specs.Room.{fits}
 use Rattle.model.specs.Reading.{Reading, walk, has, count, containers_in_use, nodes_in_use}

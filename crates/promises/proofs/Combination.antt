@@ -1,13 +1,12 @@
 -- Demand 2 for any outcome that the combination promise allows. Assumes nothing.
-use mathlib.Core.Path.{◌≡◌, refl, sym, ap, ◌∙◌, subst}
-use mathlib.Core.Logic.{◌≢◌}
+use mathlib.Core.Path.{◌≡◌, refl, sym, ap, ◌∙◌}
 use mathlib.Core.Bool.{Bool, true, false, not, ◌&&◌, true≢false, false≢true}
 use mathlib.Core.List.{List, [], ◌∷◌, ◌++◌}
 use Prim.Native.Nat.{ℕ}
-use lib.Dec.{eqb, ltb, leb}
+use lib.Dec.{eqb}
 use borrow.Author.Tests.{eqb-true}
 use Rattle.lists.specs.Lists.{different}
-use Rattle.lists.proofs.Laws.{by-test, and_both}
+use Rattle.lists.proofs.Laws.{and_both}
 use Rattle.model.specs.Room.{fits}
 use Rattle.model.specs.Reading.{Reading, has, count}
 use Rattle.model.specs.Combine.{known_op, op_of, chosen, combine}
@@ -15,10 +14,9 @@ use Rattle.model.specs.Plain.{plain_combine}
 use Rattle.model.specs.Demands.{CombinedAsPlain}
 use Rattle.model.proofs.Combining.{combined}
 use Rattle.region.specs.Read.{reading}
-use Rattle.region.specs.WellFormed.{WellFormed}
 use Rattle.region.proofs.Facts.{good}
-use Rattle.promises.specs.Refusals.{Refusal, Told, when, failing, tell, holds}
-use Rattle.promises.specs.Refusals.Told.{gave, refused}
+use Rattle.promises.specs.Refusals.{Refusal, Told, when, failing, holds}
+use Rattle.promises.specs.Refusals.Told.{gave}
 use Rattle.promises.specs.Combine.{agree, combine_refusals, result_fits, CombinePromise}
 use Rattle.promises.proofs.Tell.{append-nil, when-nil, gave-none, holds-true}
 

@@ -1,22 +1,20 @@
 -- Demands 2 and 3 for any outcome that the list promise allows. Assumes nothing.
-use mathlib.Core.Path.{◌≡◌, refl, sym, ap, ap₂, ◌∙◌, subst}
-use mathlib.Core.Bool.{Bool, true, false, cond, not, ◌&&◌, ◌||◌, true≢false, false≢true}
+use mathlib.Core.Path.{◌≡◌, refl, sym, ap, ◌∙◌, subst}
+use mathlib.Core.Bool.{Bool, true, false, not, ◌||◌, true≢false}
 use mathlib.Core.List.{List, [], ◌∷◌, ◌++◌}
-use Prim.Native.Nat.{ℕ, zero, suc, ◌+◌, ◌^◌, ◌≤◌, ◌<◌}
+use Prim.Native.Nat.{ℕ, suc, ◌+◌, ◌^◌, ◌≤◌}
 use native.Mathlib.Omega.{arith}
-use lib.Dec.{eqb, ltb, leb}
+use lib.Dec.{eqb, ltb}
 use lib.ListN.{length, take, drop, get_or}
 use lib.Seq.{take_at}
 use borrow.Author.Tests.{ltb-true, ltb-false, eqb-true}
 use Rattle.lists.specs.Lists.{first_bad}
 use Rattle.lists.proofs.Laws.{by-test}
-use Rattle.model.specs.Room.{fits}
-use Rattle.model.specs.Reading.{Reading, walk, has, count, containers_in_use, nodes_in_use}
-use Rattle.model.specs.Commands.{Code, Command, known_code, Run, run, place, commands, is_insert, is_remove}
+use Rattle.model.specs.Reading.{Reading, has, count, containers_in_use, nodes_in_use}
+use Rattle.model.specs.Commands.{Command, known_code, Run, place, commands, is_insert, is_remove}
 use Rattle.model.specs.Plain.{plain_answers}
-use Rattle.model.specs.Good.{Good}
-use Rattle.model.specs.Demands.{WordsInRange, AsPlain, answers_on, answered, inserted, Rearranged, Demand3OnReadings}
-use Rattle.model.proofs.Runs.{as_plain, good-run, answers-length}
+use Rattle.model.specs.Demands.{WordsInRange, AsPlain, answers_on, answered, Rearranged, Demand3OnReadings}
+use Rattle.model.proofs.Runs.{as_plain, answers-length}
 use Rattle.model.proofs.Rearranging.{demand-3 as demand-3-on-readings}
 use Rattle.region.specs.Ranges.{longest}
 use Rattle.region.specs.Read.{reading}

@@ -1,10 +1,9 @@
 -- Every promise determines: any two outcomes that it allows tell the same and read alike. Assumes nothing.
-use mathlib.Core.Path.{◌≡◌, refl, sym, ap, ap₂, ◌∙◌, subst}
-use mathlib.Core.Logic.{◌≢◌}
-use mathlib.Core.Bool.{Bool, true, false, not}
-use mathlib.Core.List.{List, [], ◌∷◌, ◌++◌}
+use mathlib.Core.Path.{◌≡◌, sym, ap, ap₂, ◌∙◌, subst}
+use mathlib.Core.Bool.{Bool, not}
+use mathlib.Core.List.{List, ◌++◌}
 use Prim.Native.Nat.{ℕ, ◌+◌}
-use lib.ListN.{length, take, drop}
+use lib.ListN.{length, take}
 use Rattle.lists.specs.Lists.{all}
 use Rattle.lists.proofs.Laws.{by-test}
 use Rattle.model.specs.Reading.{Reading, has}
@@ -12,14 +11,14 @@ use Rattle.model.specs.Keys.{Fields}
 use Rattle.region.specs.Geometry.{header_words}
 use Rattle.region.specs.Read.{reading}
 use Rattle.region.proofs.Facts.{same-header}
-use Rattle.promises.specs.Refusals.{Refusal, Told, when, failing, tell, unless_refused, holds}
+use Rattle.promises.specs.Refusals.{Refusal, Told, when, tell, unless_refused, holds}
 use Rattle.promises.specs.Make.{MakePromise}
 use Rattle.promises.specs.Reads.{past, ReadsAs, ReadAlike}
 use Rattle.promises.specs.Check.{CheckPromise}
 use Rattle.promises.specs.List.{list_refusals, no_room, outcome, ListPromise}
 use Rattle.promises.specs.AllMembers.{all_refusals, AllPromise}
 use Rattle.promises.specs.Walk.{walk_from, walk_refusals, written_over, WalkPromise, OpenPromise, StepPromise}
-use Rattle.promises.specs.Combine.{combine_refusals, result_fits, combined_reading, CombinePromise}
+use Rattle.promises.specs.Combine.{combine_refusals, result_fits, CombinePromise}
 use Rattle.promises.specs.Keys.{PackPromise, UnpackPromise}
 use Rattle.promises.proofs.Tell.{holds_same, Some?, none, some, some?}
 

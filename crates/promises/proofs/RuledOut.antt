@@ -1,25 +1,23 @@
 -- The programs that document 01 rules out by name, each refuted from the promises at a region and a list named here; and the Rust's remove. Assumes nothing.
 use mathlib.Core.Path.{◌≡◌, refl, sym, ap, ◌∙◌, subst}
 use mathlib.Core.Logic.{◌≢◌}
-use mathlib.Core.Bool.{Bool, true, false, true≢false, false≢true}
-use mathlib.Core.List.{List, [], ◌∷◌, ◌++◌, head-eq_of_cons-eq, cons≢nil}
+use mathlib.Core.Bool.{false, true≢false}
+use mathlib.Core.List.{List, [], ◌∷◌, ◌++◌, head-eq_of_cons-eq}
 use Prim.Native.Nat.{ℕ, ◌+◌, ◌^◌, ◌<◌}
 use native.Mathlib.Omega.{arith}
-use lib.Dec.{eqb, ltb, leb}
-use lib.ListN.{length, take, drop, get_or}
+use lib.ListN.{length, drop, get_or}
 use borrow.Author.Tests.{lt-ltb}
 use Rattle.lists.specs.Lists.{mem}
-use Rattle.lists.specs.Sums.{sum}
 use Rattle.model.specs.Room.{fits, containers_needed, nodes_needed, container_nodes}
 use Rattle.model.specs.Reading.{Reading, walk, has, count, empty}
 use Rattle.model.specs.Change.{insert, remove}
-use Rattle.model.specs.Commands.{Command, Run, run, commands}
+use Rattle.model.specs.Commands.{Run, run, commands}
 use Rattle.region.specs.Fresh.{fresh}
 use Rattle.region.specs.Read.{reading}
 use Rattle.region.specs.WellFormed.{WellFormed}
 use Rattle.region.proofs.Facts.{word-7}
 use Rattle.region.proofs.FreshShape.{fresh-well-formed, fresh-reads}
-use Rattle.promises.specs.Refusals.{Refusal, Told, when, tell, holds}
+use Rattle.promises.specs.Refusals.{Refusal, Told}
 use Rattle.promises.specs.Refusals.Told.{gave, refused}
 use Rattle.promises.specs.Check.{CheckPromise}
 use Rattle.promises.specs.List.{outcome, ListPromise}
@@ -31,6 +29,14 @@ use Rattle.promises.proofs.Demands.{told-done, ran}
 
 pub named : WellFormed (fresh 12 28 4 8 ++ []) × (reading (fresh 12 28 4 8 ++ []) ≡ empty 12 28 4 8)
 named = (fresh-well-formed 12 28 4 8 [] refl, fresh-reads 12 28 4 8 [])
+
+-- what the list that inserts 7, then 4 leaves of an empty set
+abbrev seven-four : Reading → Run
+seven-four r = run (commands (1 ∷ 1 ∷ []) (7 ∷ 4 ∷ [])) r
+
+two-of-empty : (walk (seven-four (empty 12 28 4 8)).reading ≡ 7 ∷ 4 ∷ []) × ((seven-four (empty 12 28 4 8)).stopped ≡ false)
+unfolding run insert empty has walk fits containers_needed nodes_needed container_nodes
+two-of-empty = (refl, refl)
 
 module _ (R : List ℕ) (wf : WellFormed R) (e : reading R ≡ empty 12 28 4 8) where
   -- the list that inserts 7, with one answer byte lent, which holds 9
@@ -49,8 +55,7 @@ module _ (R : List ℕ) (wf : WellFormed R) (e : reading R ≡ empty 12 28 4 8) 
 
   -- what the two commands leave: 7 and 4 are members, in this order, and the count is 2
   two_runs : (walk (outcome R (1 ∷ 1 ∷ []) (7 ∷ 4 ∷ [])).reading ≡ 7 ∷ 4 ∷ []) × ((outcome R (1 ∷ 1 ∷ []) (7 ∷ 4 ∷ [])).stopped ≡ false)
-  unfolding run insert empty has walk fits containers_needed nodes_needed container_nodes
-  two_runs = (rw e, rw e)
+  two_runs = subst (λ (r : Reading). (walk (seven-four r).reading ≡ 7 ∷ 4 ∷ []) × ((seven-four r).stopped ≡ false)) (sym e) two-of-empty
 
   module _ {told : Told (Unit {0})} {region' answers' : List ℕ} where
     one-done : ListPromise R (1 ∷ []) (7 ∷ []) (9 ∷ []) told region' answers' → told ≡ gave tt

@@ -1,10 +1,10 @@
 -- Laws of the refusal table's parts: decisions agree, and the first refusal is the one told. Assumes nothing.
-use mathlib.Core.Path.{◌≡◌, refl, sym, ap, ◌∙◌}
+use mathlib.Core.Path.{◌≡◌, refl, ap}
 use mathlib.Core.Logic.{◌≢◌}
 use mathlib.Core.Bool.{Bool, true, false, true≢false, false≢true}
 use mathlib.Core.List.{List, [], ◌∷◌, ◌++◌, cons≢nil}
 use Prim.Native.Nat.{ℕ}
-use Rattle.promises.specs.Refusals.{Refusal, Told, refusal, when, tell, unless_refused, holds}
+use Rattle.promises.specs.Refusals.{Refusal, Told, when, tell, holds}
 use Rattle.promises.specs.Refusals.Told.{gave, refused}
 
 -- two decisions of one question agree

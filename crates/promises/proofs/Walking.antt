@@ -1,16 +1,11 @@
 -- The walk has no word twice, and a walker gives the same sequence. Assumes nothing.
-use mathlib.Core.Path.{◌≡◌, refl, sym, ap, ap₂, ◌∙◌, subst}
+use mathlib.Core.Path.{◌≡◌, refl, sym, ap, ap₂, ◌∙◌}
 use mathlib.Core.List.{List, [], ◌∷◌, ◌++◌}
-use Prim.Native.Nat.{ℕ, zero, suc, ◌+◌}
-use native.Mathlib.Omega.{arith}
+use Prim.Native.Nat.{ℕ, suc, ◌+◌}
 use lib.ListN.{length, take, drop}
-use lib.Seq.{take-add, drop-drop, take-nil, drop-nil}
-use Rattle.lists.specs.Lists.{Distinct}
+use lib.Seq.{drop-drop, take-nil}
 use Rattle.model.specs.Reading.{Reading, walk}
-use Rattle.model.proofs.Steps.{walk-distinct}
-use Rattle.region.specs.Read.{reading}
-use Rattle.region.specs.WellFormed.{WellFormed}
-use Rattle.promises.specs.Walk.{walk_from, StepPromise, Steps}
+use Rattle.promises.specs.Walk.{walk_from, Steps}
 use Rattle.promises.specs.Walk.Steps.{none, next}
 
 -- one word, then n from behind it

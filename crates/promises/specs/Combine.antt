@@ -2,7 +2,6 @@
 use Rattle.std.specs.Prelude.{◌≡◌, ◌≢◌, Bool, true, false, not, ◌&&◌, List, [], ◌∷◌, ◌++◌, ℕ, eqb}
 use Rattle.model.specs.Room.{fits}
 use Rattle.model.specs.Reading.{Reading}
-use Rattle.model.specs.Commands.{Run}
 use Rattle.model.specs.Combine.{known_op, op_of, chosen, combine}
 use Rattle.region.specs.Fresh.{fresh}
 use Rattle.region.specs.Read.{reading}

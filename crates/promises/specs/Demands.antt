@@ -1,13 +1,13 @@
 -- Demands 2 and 3 of the request, of the list entry: any outcomes that its promise allows. Assumes nothing.
 use Rattle.std.specs.Prelude.{◌≡◌, true, false, List, [], ◌++◌, ℕ, length, take, get_or}
 use Rattle.model.specs.Room.{fits}
-use Rattle.model.specs.Reading.{Reading, walk, has}
+use Rattle.model.specs.Reading.{walk, has}
 use Rattle.model.specs.Commands.{Command, commands, Run}
 use Rattle.model.specs.Plain.{plain_answers}
 use Rattle.model.specs.Demands.{AsPlain, answers_on, inserted, Rearranged}
 use Rattle.region.specs.Read.{reading}
 use Rattle.region.specs.WellFormed.{WellFormed}
-use Rattle.promises.specs.Refusals.{Refusal, Told}
+use Rattle.promises.specs.Refusals.{Told}
 use Rattle.promises.specs.Refusals.Told.{gave, refused}
 use Rattle.promises.specs.List.{list_refusals, ListPromise}
 

@@ -1,5 +1,5 @@
 -- Document 01, the refusal table: refusals by number and place, and which of several is given. Assumes nothing.
-use Rattle.std.specs.Prelude.{Bool, true, false, cond, List, [], ◌∷◌, ℕ, ltb, length}
+use Rattle.std.specs.Prelude.{Bool, true, false, List, [], ◌∷◌, ℕ, ltb, length}
 use Rattle.lists.specs.Lists.{first_bad}
 
 -- a refusal: its number and the place returned

@@ -1,10 +1,10 @@
 -- Document 01, "Worked numbers": the twelve cases marked * and small rows of our own, in one kind of table. Assumes nothing.
 use Rattle.std.specs.Prelude.{Bool, true, false, not, ◌&&◌, List, [], ◌∷◌, ℕ, ◌+◌, ◌*◌, ◌^◌, eqb}
 use Rattle.model.specs.Reading.{Reading, walk, count, empty}
-use Rattle.model.specs.Commands.{Run, commands, run}
+use Rattle.model.specs.Commands.{commands, run}
 use Rattle.model.specs.Combine.{op_of, inserting, combine}
 use Rattle.model.specs.Keys.{Fields, fields_are, key_of, fields_of}
-use Rattle.promises.specs.Refusals.{Told, Refusal, refusal, tell}
+use Rattle.promises.specs.Refusals.{Told, refusal, tell}
 use Rattle.promises.specs.Refusals.Told.{gave, refused}
 use Rattle.promises.specs.Walk.{walk_from}
 use Rattle.promises.specs.Keys.{field_refusals, unpack_refusals}

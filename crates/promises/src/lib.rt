@@ -1,7 +1,8 @@
 // What each entry answers, as an enum of its own. specs/Answers gives document 01's number and values for each case.
-
 // Make a region.
-#[derive(Drop)]
+#![tactic(auto)]
+
+#[derive(Clone, Copy)]
 pub enum Made {
     Done,
     OutOfRange,
@@ -9,14 +10,14 @@ pub enum Made {
 }
 
 // Check a region.
-#[derive(Drop)]
+#[derive(Clone, Copy)]
 pub enum Checked {
     WellFormed,
     Malformed,
 }
 
 // Run a command list. A refusal holds its place where that is not 0.
-#[derive(Drop)]
+#[derive(Clone, Copy)]
 pub enum Listed {
     Done,
     Malformed,
@@ -27,7 +28,7 @@ pub enum Listed {
 }
 
 // Ask whether all words of a list are members.
-#[derive(Drop)]
+#[derive(Clone, Copy)]
 pub enum Asked {
     All,
     NotAll,
@@ -37,7 +38,7 @@ pub enum Asked {
 }
 
 // Walk from a place: how many words were written.
-#[derive(Drop)]
+#[derive(Clone, Copy)]
 pub enum Walked {
     Wrote(usize),
     Malformed,
@@ -45,14 +46,14 @@ pub enum Walked {
 }
 
 // One step of a walker: the next word, or none.
-#[derive(Drop)]
+#[derive(Clone, Copy)]
 pub enum Stepped {
     Word(u64),
     End,
 }
 
 // Combine two sets into a third. Malformed holds which of the three regions is the first bad one.
-#[derive(Drop)]
+#[derive(Clone, Copy)]
 pub enum Combined {
     Done,
     Malformed(usize),
@@ -62,22 +63,22 @@ pub enum Combined {
 }
 
 // The fields of a preview key, each of a type of its own, so that none is passed for another by accident.
-#[derive(Drop)]
+#[derive(Clone, Copy)]
 pub struct Card(pub u64);
 
-#[derive(Drop)]
+#[derive(Clone, Copy)]
 pub struct Rollover(pub u64);
 
-#[derive(Drop)]
+#[derive(Clone, Copy)]
 pub struct Folder(pub u64);
 
-#[derive(Drop)]
+#[derive(Clone, Copy)]
 pub struct Frame(pub u64);
 
-#[derive(Drop)]
+#[derive(Clone, Copy)]
 pub struct Kind(pub u64);
 
-#[derive(Drop)]
+#[derive(Clone, Copy)]
 pub struct Fields {
     pub card: Card,
     pub rollover: Rollover,
@@ -87,14 +88,14 @@ pub struct Fields {
 }
 
 // Pack a preview key. FieldOutOfRange holds the first bad field.
-#[derive(Drop)]
+#[derive(Clone, Copy)]
 pub enum Packed {
     Key(u64),
     FieldOutOfRange(usize),
 }
 
 // Unpack a preview key.
-#[derive(Drop)]
+#[derive(Clone, Copy)]
 pub enum Unpacked {
     Fields(Fields),
     WordTooLarge,

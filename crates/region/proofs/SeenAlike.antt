@@ -10,7 +10,7 @@ use lib.Dec.{eqb}
 use lib.ListN.{length}
 use borrow.Author.Tests.{eqb-true, eq-eqb, ne_eqb}
 use Rattle.lists.specs.Lists.{mem, up_to}
-use Rattle.lists.proofs.Sums.{sum_same, sum_less}
+use Rattle.lists.proofs.Sums.{sum_same}
 use Rattle.lists.proofs.Same.{each_same, up_to-same, down_from-same}
 use Rattle.model.specs.Words.{bytes_of}
 use Rattle.model.specs.Reading.{Container, Reading, walk}

@@ -1,5 +1,5 @@
 -- The conditions on nodes said locally: each node names its neighbours. No promise cites them: they are equal to the document's (proofs/OnePath), and the layers below the entries work with them. Assumes nothing.
-use Rattle.std.specs.Prelude.{ℕ, suc, ◌<◌, ◌≤◌, ◌≡◌, ◌≢◌}
+use Rattle.std.specs.Prelude.{ℕ, suc, ◌<◌, ◌≤◌, ◌≡◌}
 use Rattle.model.specs.Words.{bytes_of}
 use Rattle.region.specs.Areas.{Numbers}
 use Rattle.region.specs.Nodes.{Nodes}

@@ -1,14 +1,10 @@
 -- A cleared region is the fresh image of its own numbers. Assumes nothing.
-use Rattle.std.proofs.Common.{◌≡◌, ℕ, ◌≤◌, List, ◌++◌, length, drop, sym, ap, ◌∙◌, subst, drop_at}
-use Rattle.model.specs.Reading.{empty}
+use Rattle.std.proofs.Common.{◌≡◌, ℕ, ◌≤◌, List, ◌++◌, length, drop, sym, ap, ◌∙◌, subst}
 use Rattle.region.specs.Geometry.{total}
 use Rattle.region.specs.Areas.{numbers}
 use Rattle.region.specs.Fresh.{fresh}
 use Rattle.region.specs.Read.{read, reading}
 use Rattle.region.specs.WellFormed.{WellFormed}
-use Rattle.region.proofs.FreshAreas.{fresh-length}
-use Rattle.region.proofs.FreshShape.{fresh-well-formed, fresh-reads}
-use Rattle.promises.specs.Reads.{ReadsAs}
 use Rattle.promises.specs.Combine.{fresh_again}
 use Rattle.make.specs.declared.geometry.Geometry.{Geometry}
 use Rattle.make.specs.Laid.{Laid, GeometryOf}

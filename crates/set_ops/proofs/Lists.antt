@@ -1,5 +1,5 @@
 -- The words that qualify, piece by piece: of a strip, of a trie's chunks, of the containers by rank. Assumes nothing.
-use Rattle.std.proofs.Common.{◌≡◌, ℕ, zero, suc, ◌+◌, ◌-◌, ◌<◌, ◌≤◌, Bool, true, false, cond, not, ◌&&◌, eqb, ◌≢◌, List, [], ◌∷◌, ◌++◌, map, length, get_or, take, drop, sym, refl, ap, ◌∙◌, append_assoc, append-nil, add-zero, add-suc, arith, length-drop, take-append-drop, take_all, take-suc, take-add, eq-eqb, ne_eqb}
+use Rattle.std.proofs.Common.{◌≡◌, ℕ, zero, suc, ◌+◌, ◌-◌, ◌<◌, ◌≤◌, Bool, true, false, cond, ◌&&◌, eqb, ◌≢◌, List, [], ◌∷◌, ◌++◌, map, length, get_or, take, drop, sym, refl, ap, ◌∙◌, append_assoc, append-nil, add-zero, add-suc, arith, length-drop, take-append-drop, take_all, take-suc, take-add, eq-eqb, ne_eqb}
 use Rattle.lists.specs.Lists.{each, keep, up_to}
 use Rattle.model.specs.Words.{joined}
 use Rattle.model.specs.Reading.{Container, container_words, words_of}

@@ -1,7 +1,6 @@
 -- How far the loops of a pour have come: the entries of a strip, the chunks of a trie, the containers by rank. Assumes nothing.
-use Rattle.std.proofs.Common.{◌≡◌, ℕ, suc, ◌+◌, ◌-◌, ◌*◌, ◌%◌, ◌^◌, ◌<◌, ◌≤◌, Bool, true, false, ◌&&◌, leb, List, [], ◌∷◌, ◌++◌, length, get_or, take, drop, sym, ap, ◌∙◌, subst, arith, take_all, pow_mono, pow-add, shl_exact, leb-true}
+use Rattle.std.proofs.Common.{◌≡◌, ℕ, ◌+◌, ◌-◌, ◌*◌, ◌%◌, ◌^◌, ◌<◌, ◌≤◌, Bool, false, ◌&&◌, leb, List, ◌++◌, length, get_or, take, drop, sym, ap, ◌∙◌, subst, arith, pow_mono, pow-add, shl_exact, leb-true}
 use lib.Arith.{digits_lt}
-use Rattle.lists.specs.Lists.{keep}
 use Rattle.lists.proofs.Laws.{and_both}
 use Rattle.model.specs.Words.{joined}
 use Rattle.trie_walk.specs.Pour.{window}
@@ -9,9 +8,9 @@ use Rattle.region.specs.Ranges.{good_p, good_s, good_c, good_n}
 use Rattle.region.specs.Areas.{numbers}
 use Rattle.region.specs.WellFormed.{WellFormed}
 use Rattle.wordset_lookup.proofs.Looks.{S-high}
-use Rattle.set_ops.specs.Poured.{Alike, AllSmall, Ended, Framed, Halted, PouredAs, pouring, qualifying}
-use Rattle.set_ops.proofs.Lists.{one_more, with_rest, chunk-more, chunk-last}
-use Rattle.set_ops.proofs.Pouring.{ended-framed, ended-long, framed_alike, framed-word, halt-poured, last-poured, next-poured, none-poured, was-ended, was-halted}
+use Rattle.set_ops.specs.Poured.{AllSmall, Ended, Framed, Halted, PouredAs, pouring, qualifying}
+use Rattle.set_ops.proofs.Lists.{with_rest, chunk-more, chunk-last}
+use Rattle.set_ops.proofs.Pouring.{ended-framed, ended-long, halt-poured, last-poured, none-poured, was-halted}
 
 -- Words
 

@@ -1,5 +1,5 @@
 -- A trie's suffixes, poured chunk by chunk: each chunk goes on behind the last suffix of the one before. Assumes nothing.
-use Rattle.std.proofs.Common.{◌≡◌, ℕ, zero, suc, ◌+◌, ◌-◌, ◌^◌, ◌<◌, ◌≤◌, Bool, true, false, eqb, List, [], ◌∷◌, ◌++◌, length, get_or, take, drop, sym, refl, ap, ◌∙◌, subst, arith, length-append, length-drop, length-take, get_or-drop, get_or-take, take_at, pow_pos, pow_mono, le-leb}
+use Rattle.std.proofs.Common.{◌≡◌, ℕ, zero, suc, ◌+◌, ◌-◌, ◌^◌, ◌<◌, ◌≤◌, Bool, true, false, eqb, List, [], ◌∷◌, ◌++◌, length, get_or, take, drop, sym, refl, ap, ◌∙◌, subst, arith, length-drop, length-take, get_or-drop, get_or-take, take_at, pow_pos, pow_mono, le-leb}
 use borrow.Author.Tests.{lt-leb}
 use Rattle.lists.specs.Lists.{Ascending, Over, mem}
 use Rattle.lists.proofs.Laws.{eqb-self, or_left, or_right}

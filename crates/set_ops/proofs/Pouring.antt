@@ -1,5 +1,5 @@
 -- Words poured after others are poured as one list; the destination keeps its numbers and its words past the total. Assumes nothing.
-use Rattle.std.proofs.Common.{◌≡◌, ℕ, ◌+◌, ◌-◌, ◌^◌, ◌<◌, ◌≤◌, Bool, true, false, cond, List, [], ◌∷◌, ◌++◌, length, drop, sym, refl, ap, ◌∙◌, subst, arith, length-drop}
+use Rattle.std.proofs.Common.{◌≡◌, ℕ, ◌+◌, ◌-◌, ◌^◌, ◌<◌, ◌≤◌, Bool, true, false, List, [], ◌∷◌, ◌++◌, length, drop, sym, refl, ap, ◌∙◌, subst, arith, length-drop}
 use Rattle.model.specs.Reading.{Reading}
 use Rattle.model.specs.Commands.{Code, Command, Run, changed, run}
 use Rattle.model.specs.Combine.{inserting}
@@ -10,7 +10,6 @@ use Rattle.region.specs.Areas.{numbers}
 use Rattle.region.specs.Read.{read, reading}
 use Rattle.region.specs.WellFormed.{WellFormed}
 use Rattle.promises.specs.Reads.{past, ReadsAs}
-use Rattle.lists.specs.Lists.{keep}
 use Rattle.steps.specs.Commands.{Did, Full}
 use Rattle.wordset_trie.specs.declared.Outcome.{Outcome}
 use Rattle.wordset_trie.specs.declared.Outcome.TheVariants.{New, Old, NoRoom}

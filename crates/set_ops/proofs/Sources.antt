@@ -1,22 +1,18 @@
 -- What a container lends to a pour: the entries of its strip, the chunks of its trie, and the containers one after the other by rank. Assumes nothing.
-use Rattle.std.proofs.Common.{◌≡◌, ℕ, zero, suc, ◌+◌, ◌-◌, ◌*◌, ◌^◌, ◌<◌, ◌≤◌, Bool, true, false, eqb, ◌≢◌, List, [], ◌∷◌, ◌++◌, length, get_or, take, drop, sym, ap, ◌∙◌, subst, arith, length-append, length-drop, length-take, get_or-drop, get_or-take, take_at, pow_pos, ne_eqb}
+use Rattle.std.proofs.Common.{◌≡◌, ℕ, zero, suc, ◌+◌, ◌-◌, ◌*◌, ◌^◌, ◌<◌, ◌≤◌, Bool, true, false, eqb, ◌≢◌, List, [], ◌∷◌, ◌++◌, length, get_or, take, drop, sym, ap, ◌∙◌, subst, arith, length-drop, length-take, get_or-drop, get_or-take, ne_eqb}
 use Rattle.lists.specs.Lists.{each, keep, mem, up_to}
 use Rattle.lists.proofs.Each.{Place, mem-up_to}
 use Rattle.lists.proofs.Laws.{eqb-self, or_left, or_right}
-use Rattle.model.specs.Words.{bytes_of}
 use Rattle.model.specs.Reading.{Container, container_words, walk, words_of}
 use Rattle.region.specs.Areas.{Numbers, numbers}
-use Rattle.region.specs.Tries.{members}
 use Rattle.region.specs.Seen.{Seen, seen}
 use Rattle.region.specs.Read.{container, read, reading, suffixes}
 use Rattle.region.specs.WellFormed.{WellFormed}
 use Rattle.region.proofs.SeenBits.{seen-bits}
-use Rattle.region.proofs.Containers.{AtRank, at-rank, suffixes-trie}
-use Rattle.arena.specs.Arena.{Root, Tries, nodes_in}
+use Rattle.region.proofs.Containers.{AtRank, at-rank}
 use Rattle.lens.proofs.Ranks.{place-small}
 use Rattle.trie_walk.specs.Pour.{window}
-use Rattle.wordset_lookup.proofs.Looks.{arena_part, trie-ready, vector-part}
-use Rattle.wordset_trie.proofs.Lent.{held-is, ms-small}
+use Rattle.wordset_lookup.proofs.Looks.{vector-part}
 use Rattle.set_ops.specs.Poured.{Alike, AllSmall, Ended, Framed, Halted, PouredAs, pouring, qualifying}
 use Rattle.set_ops.proofs.Lists.{rank-more, rank-rest}
 use Rattle.set_ops.proofs.Pouring.{ended-framed, ended-long, halt-poured, next-poured, none-poured, poured-same, was-ended, was-halted}

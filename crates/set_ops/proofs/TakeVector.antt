@@ -54,7 +54,9 @@ placed_same p t (c ∷ cs) a m = go (ltb p c.prefix) refl (eqb p c.prefix) refl 
         let l = ltb-true p c.prefix e in
         or_cases (eqb p c.prefix) (mem p (prefixes_of cs)) m (λ i. let q = eqb-true p c.prefix i in absurd (omega arith)) (λ i. let k : c.prefix < p = over-mem (prefixes_of cs) a.0 i in absurd (omega arith))
     go false e true f ih = rw (e, f) (ap (λ (q : ℕ). record { prefix = q; slot = c.slot; suffixes = c.suffixes } ∷ cs) (eqb-true p c.prefix f))
-    go false e false f ih = rw (e, f) (ap (λ (ds : List Container). c ∷ ds) (ih (rw f at m)))
+    go false e false f ih =
+        let u : under p (c ∷ cs) ≡ under p cs = ap (λ (b : Bool). cond b c.suffixes (under p cs)) f in
+        rw (e, f) (ap (λ (ds : List Container). c ∷ ds) (ap (λ (xs : List ℕ). placed p t xs cs) u ∙ ih (rw f at m)))
 
 -- a reading with other suffixes under a prefix
 abbrev pub filled : Reading → ℕ → List ℕ → Reading

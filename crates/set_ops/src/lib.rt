@@ -1,4 +1,6 @@
 // Combines two sets into a third: union, intersection, difference and symmetric difference.
+#![tactic(auto)]
+
 ghost use Rattle.std.specs.Prelude.{◌≡◌, ◌≤◌, ◌&&◌, ◌==◌};
 ghost use Rattle.model.specs.Combine.{Op, op_of, chosen, combine as combining};
 ghost use Rattle.region.specs.Areas.{numbers};

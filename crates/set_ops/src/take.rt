@@ -1,12 +1,12 @@
 // Takes words over from one set into another, as far as there is room. All words of a call share one prefix: its slot is found once in each set. The other set is asked about up to 64 suffixes side by side.
 ghost use Rattle.std.specs.Prelude.{◌≡◌, ℕ, ◌+◌, ◌^◌, ◌<◌, ◌≤◌, true, false, ◌≢◌, [], ◌∷◌, map, length, take, if◌then◌else◌, nat_eq, slice_index};
 ghost use Rattle.lists.specs.Lists.{keep, mem};
-ghost use Rattle.model.specs.Words.{joined as joinedWord};
+ghost use Rattle.model.specs.Words.{joined as joined_word};
 ghost use Rattle.region.specs.Areas.{numbers};
 ghost use Rattle.region.specs.Seen.{seen};
-ghost use Rattle.region.specs.Read.{suffixes as suffixesOf, reading};
+ghost use Rattle.region.specs.Read.{suffixes as suffixes_of, reading};
 ghost use Rattle.region.specs.WellFormed.{Bears, WellFormed};
-ghost use Rattle.set_ops.specs.Poured.{Alike, AllSmall, PouredAs, wanted as isWanted};
+ghost use Rattle.set_ops.specs.Poured.{Alike, AllSmall, PouredAs, wanted as is_wanted};
 
 use lens::{rank, read};
 use strip::search::contains;
@@ -24,7 +24,7 @@ fn joined(p: usize, s: u64, bits: usize) -> u64
     requires p_bound { p < 2 ^ 24 }
     requires bits_bound { bits ≤ 40 }
     requires s_bound { s < 2 ^ bits }
-    ensures { result ≡ joinedWord bits p s }
+    ensures { result ≡ joined_word bits p s }
 {
     ((p as u64) << bits) + s
 }
@@ -33,7 +33,7 @@ fn joined(p: usize, s: u64, bits: usize) -> u64
 fn asked(other: &[u64], p: usize, common: bool, own: bool) -> bool
     requires well_formed { WellFormed other.now }
     requires p_bound { p < 2 ^ (numbers other.now).P }
-    ensures without { result ≡ false → (s : ℕ) → s < 2 ^ (numbers other.now).S → isWanted (reading other.now) common own (joinedWord (numbers other.now).S p s) ≡ own }
+    ensures without { result ≡ false → (s : ℕ) → s < 2 ^ (numbers other.now).S → is_wanted (reading other.now) common own (joined_word (numbers other.now).S p s) ≡ own }
     ensures with { result ≡ true → (seen (numbers other.now) other.now).bit p ≡ 1 }
 {
     if !common {
@@ -85,7 +85,7 @@ fn in_trie_each(other: &[u64], d: usize, suffixes: &[u64], flags: &mut [u8])
     requires all_small { AllSmall (numbers other.now).S suffixes.now }
     requires suffixes_len_bound { length suffixes.now ≤ 64 }
     requires suffixes_in_bounds { length suffixes.now ≤ length flags.old }
-    ensures { (i : ℕ) → i < length suffixes.now → slice_index flags.new i ≡ (if mem (slice_index suffixes.now i) (suffixesOf (numbers other.now) (seen (numbers other.now) other.now) d) then 1 else 0) }
+    ensures { (i : ℕ) → i < length suffixes.now → slice_index flags.new i ≡ (if mem (slice_index suffixes.now i) (suffixes_of (numbers other.now) (seen (numbers other.now) other.now) d) then 1 else 0) }
 {
     let slots = read::n(other);
     let bits = read::s(other);
@@ -110,7 +110,7 @@ fn held_each(other: &[u64], d: usize, suffixes: &[u64], flags: &mut [u8])
     requires all_small { AllSmall (numbers other.now).S suffixes.now }
     requires suffixes_len_bound { length suffixes.now ≤ 64 }
     requires suffixes_in_bounds { length suffixes.now ≤ length flags.old }
-    ensures { (i : ℕ) → i < length suffixes.now → slice_index flags.new i ≡ (if mem (slice_index suffixes.now i) (suffixesOf (numbers other.now) (seen (numbers other.now) other.now) d) then 1 else 0) }
+    ensures { (i : ℕ) → i < length suffixes.now → slice_index flags.new i ≡ (if mem (slice_index suffixes.now i) (suffixes_of (numbers other.now) (seen (numbers other.now) other.now) d) then 1 else 0) }
 {
     if read::kind(other, d) == 1 {
         let len = read::size(other, d);
@@ -147,7 +147,7 @@ fn keep_block(
     requires block_len_bound { length block.now ≤ 64 }
     requires kept_len { length kept.old ≡ 64 }
     ensures number { result ≤ 64 }
-    ensures written { take result kept.new ≡ keep (λ s. (if mem s (suffixesOf (numbers other.now) (seen (numbers other.now) other.now) d) then common else own)) block.now }
+    ensures written { take result kept.new ≡ keep (λ s. (if mem s (suffixes_of (numbers other.now) (seen (numbers other.now) other.now) d) then common else own)) block.now }
 {
     let mut flags: [u8; BLOCK] = [0; BLOCK];
     held_each(other, d, block, &mut flags);
@@ -181,7 +181,7 @@ fn put_at(dest: &mut [u64], c: usize, s: u64) -> bool
     requires c_bound { c < (numbers dest.old).C }
     requires c_nonzero { (seen (numbers dest.old) dest.old).kind c ≢ 0 }
     requires s_bound { s < 2 ^ (numbers dest.old).S }
-    ensures { PouredAs (joinedWord (numbers dest.old).S ((seen (numbers dest.old) dest.old).prefix c) s ∷ []) dest.old result dest.new }
+    ensures { PouredAs (joined_word (numbers dest.old).S ((seen (numbers dest.old) dest.old).prefix c) s ∷ []) dest.old result dest.new }
 {
     match insert_at(dest, c, s) {
         Outcome::New => true,
@@ -196,7 +196,7 @@ fn put_singly(dest: &mut [u64], c: usize, suffixes: &[u64]) -> bool
     requires c_bound { c < (numbers dest.old).C }
     requires c_nonzero { (seen (numbers dest.old) dest.old).kind c ≢ 0 }
     requires all_small { AllSmall (numbers dest.old).S suffixes.now }
-    ensures poured { PouredAs (map (joinedWord (numbers dest.old).S ((seen (numbers dest.old) dest.old).prefix c)) suffixes.now) dest.old result dest.new }
+    ensures poured { PouredAs (map (joined_word (numbers dest.old).S ((seen (numbers dest.old) dest.old).prefix c)) suffixes.now) dest.old result dest.new }
     ensures stays { result ≡ true → Bears (numbers dest.new) (seen (numbers dest.new) dest.new) ((seen (numbers dest.old) dest.old).prefix c) c }
 {
     let mut i = 0;
@@ -215,7 +215,7 @@ fn put_trie(dest: &mut [u64], c: usize, suffixes: &[u64]) -> bool
     requires c_bound { c < (numbers dest.old).C }
     requires c_value { (seen (numbers dest.old) dest.old).kind c ≡ 2 }
     requires all_small { AllSmall (numbers dest.old).S suffixes.now }
-    ensures poured { PouredAs (map (joinedWord (numbers dest.old).S ((seen (numbers dest.old) dest.old).prefix c)) suffixes.now) dest.old result dest.new }
+    ensures poured { PouredAs (map (joined_word (numbers dest.old).S ((seen (numbers dest.old) dest.old).prefix c)) suffixes.now) dest.old result dest.new }
     ensures stays { result ≡ true → Bears (numbers dest.new) (seen (numbers dest.new) dest.new) ((seen (numbers dest.old) dest.old).prefix c) c }
 {
     let done = put_each(dest, c, suffixes);
@@ -228,7 +228,7 @@ fn put_all(dest: &mut [u64], c: usize, suffixes: &[u64]) -> bool
     requires c_bound { c < (numbers dest.old).C }
     requires c_nonzero { (seen (numbers dest.old) dest.old).kind c ≢ 0 }
     requires all_small { AllSmall (numbers dest.old).S suffixes.now }
-    ensures poured { PouredAs (map (joinedWord (numbers dest.old).S ((seen (numbers dest.old) dest.old).prefix c)) suffixes.now) dest.old result dest.new }
+    ensures poured { PouredAs (map (joined_word (numbers dest.old).S ((seen (numbers dest.old) dest.old).prefix c)) suffixes.now) dest.old result dest.new }
     ensures stays { result ≡ true → Bears (numbers dest.new) (seen (numbers dest.new) dest.new) ((seen (numbers dest.old) dest.old).prefix c) c }
 {
     if read::kind(dest, c) == 2 {
@@ -242,7 +242,7 @@ fn put_all(dest: &mut [u64], c: usize, suffixes: &[u64]) -> bool
 }
 
 // Whether there was room; and the slot of the prefix, once a word of it was taken over.
-#[derive(Drop)]
+#[derive(Clone, Copy)]
 struct Taken {
     ok: bool,
     known: bool,
@@ -262,7 +262,7 @@ fn put_under(
     requires p_bound { p < 2 ^ (numbers dest.old).P }
     requires all_small { AllSmall (numbers dest.old).S suffixes.now }
     requires bears { known ≡ true → Bears (numbers dest.old) (seen (numbers dest.old) dest.old) p c }
-    ensures poured { PouredAs (map (joinedWord (numbers dest.old).S p) suffixes.now) dest.old result.ok dest.new }
+    ensures poured { PouredAs (map (joined_word (numbers dest.old).S p) suffixes.now) dest.old result.ok dest.new }
     ensures stays { result.ok ≡ true → result.known ≡ true → Bears (numbers dest.new) (seen (numbers dest.new) dest.new) p result.c }
 {
     if known {
@@ -323,7 +323,7 @@ fn take_asked(
     requires p_bound { p < 2 ^ (numbers dest.old).P }
     requires all_small { AllSmall (numbers dest.old).S chunk.now }
     requires p_value { (seen (numbers other.now) other.now).bit p ≡ 1 }
-    ensures { PouredAs (keep (isWanted (reading other.now) common own) (map (joinedWord (numbers dest.old).S p) chunk.now)) dest.old result dest.new }
+    ensures { PouredAs (keep (is_wanted (reading other.now) common own) (map (joined_word (numbers dest.old).S p) chunk.now)) dest.old result dest.new }
 {
     let d = rank::slot_of(other, p, hint);
     let mut kept: [u64; BLOCK] = [0; BLOCK];
@@ -359,7 +359,7 @@ pub(crate) fn take_over(
     requires alike { Alike other.now dest.old }
     requires p_bound { p < 2 ^ (numbers dest.old).P }
     requires all_small { AllSmall (numbers dest.old).S chunk.now }
-    ensures { PouredAs (keep (isWanted (reading other.now) common own) (map (joinedWord (numbers dest.old).S p) chunk.now)) dest.old result dest.new }
+    ensures { PouredAs (keep (is_wanted (reading other.now) common own) (map (joined_word (numbers dest.old).S p) chunk.now)) dest.old result dest.new }
 {
     if asked(other, p, common, own) {
         return take_asked(dest, other, p, hint, chunk, common, own);

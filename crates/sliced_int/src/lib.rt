@@ -1,4 +1,6 @@
 // A suffix as b bytes, the most significant first (src/sliced_int.rs of the Rust). The const generic BYTES is the number b here.
+#![tactic(auto)]
+
 ghost use Rattle.std.specs.Prelude.{◌≡◌, ◌<◌, ◌≤◌, get_or};
 ghost use Rattle.region.specs.Tries.{byte_of};
 ghost use Rattle.sliced_int.specs.Sliced.{Sliced, value_of};
@@ -14,7 +16,7 @@ pub fn byte(s: u64, b: usize, j: usize) -> usize
 }
 
 // How two numbers stand to each other.
-#[derive(Drop)]
+#[derive(Clone, Copy)]
 pub enum Order {
     Less,
     Equal,
@@ -22,7 +24,7 @@ pub enum Order {
 }
 
 // The first len of the bytes are the suffix; document 01 has at most 40 bits of it.
-#[derive(Drop)]
+#[derive(Clone, Copy)]
 pub struct SlicedInt {
     pub bytes: [u8; 5],
     pub len: usize,

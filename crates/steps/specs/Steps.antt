@@ -1,9 +1,8 @@
 -- The three ways in which a well-formed region changes, as what is seen of it before and after: a container is refilled, a container is opened, a container is closed. Every insert and remove is one of them. No promise cites them: they are proved to keep a region well formed and to change its reading as document 01 says. Assumes nothing.
-use Rattle.std.specs.Prelude.{ℕ, suc, ◌+◌, ◌-◌, ◌^◌, ◌<◌, ◌≤◌, ◌≡◌, ◌≢◌, List, [], ◌∷◌, length}
+use Rattle.std.specs.Prelude.{ℕ, suc, ◌-◌, ◌^◌, ◌<◌, ◌≤◌, ◌≡◌, ◌≢◌, List}
 use Rattle.lists.specs.Lists.{up_to}
 use Rattle.model.specs.Words.{bytes_of}
 use Rattle.region.specs.Areas.{Numbers}
-use Rattle.region.specs.Nodes.{Nodes}
 use Rattle.region.specs.Tries.{members}
 use Rattle.region.specs.Seen.{Seen}
 use Rattle.region.specs.WellFormed.{Vector, Trie, AllNonEmpty, SpareNode, StackedNode, nodes_used, rank_of}

@@ -1,4 +1,6 @@
 // The container of the Rust's `src/trievec`: its record, and the strip of entries that it lends, read and changed as one part.
+#![tactic(auto)]
+
 pub mod bounds;
 pub mod differ;
 pub mod search;
@@ -6,7 +8,7 @@ pub mod store;
 pub mod trievec;
 
 // What a search for an entry finds.
-#[derive(Drop)]
+#[derive(Clone, Copy)]
 pub enum Found {
     At(usize),
     Nothing,

@@ -3,7 +3,7 @@ ghost use Rattle.std.specs.Prelude.{◌≡◌};
 ghost use Rattle.model.specs.Room.{threshold};
 
 // Kind 0 is free, 1 a vector, 2 a trie; link is a trie's root, or a free slot's place in the stack.
-#[derive(Drop)]
+#[derive(Clone, Copy)]
 pub struct TrieVec {
     pub kind: u64,
     pub prefix: u64,

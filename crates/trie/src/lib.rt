@@ -1,4 +1,6 @@
 // Tries over the node arena (src/trie.rs of the Rust). `slots` is the number of node slots, `used` how many are in use, `b` the number of levels.
+#![tactic(auto)]
+
 ghost use Rattle.std.specs.Prelude.{◌≡◌, true, ◌+◌, ◌*◌, ◌^◌, ◌<◌, ◌≤◌};
 ghost use Rattle.lists.specs.Lists.{mem};
 ghost use Rattle.region.specs.Tries.{byte_of, members};
@@ -10,14 +12,14 @@ use arena::{read, write};
 use sliced_int::byte;
 
 // A node, and how many bytes of a suffix lead to it.
-#[derive(Drop)]
+#[derive(Clone, Copy)]
 struct Spot {
     n: usize,
     j: usize,
 }
 
 // What an insert did. New holds the nodes in use afterwards.
-#[derive(Drop)]
+#[derive(Clone, Copy)]
 pub enum Inserted {
     New(usize),
     Old,
@@ -25,7 +27,7 @@ pub enum Inserted {
 }
 
 // What a removal did. Gone and Last hold the nodes in use afterwards; after Last the root is free too.
-#[derive(Drop)]
+#[derive(Clone, Copy)]
 pub enum Removed {
     Gone(usize),
     Last(usize),

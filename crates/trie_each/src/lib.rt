@@ -1,4 +1,6 @@
 // Inserts of several suffixes into one trie. One that differs from the one before only in its last two bytes begins at the node where that one's other bytes led.
+#![tactic(auto)]
+
 ghost use Rattle.std.specs.Prelude.{◌≡◌, true, ℕ, ◌+◌, ◌-◌, ◌*◌, ◌^◌, ◌<◌, ◌≤◌, length, get_or};
 ghost use Rattle.arena.specs.Arena.{nodes_in, Root, Arena};
 ghost use Rattle.trie.specs.Walked.{Walked};
@@ -11,7 +13,7 @@ use sliced_int::byte;
 use trie::{Inserted, insert, lead};
 
 // How many suffixes were taken, how many of them were new, and the nodes in use afterwards.
-#[derive(Drop)]
+#[derive(Clone, Copy)]
 pub struct Many {
     pub done: usize,
     pub added: usize,
@@ -19,7 +21,7 @@ pub struct Many {
 }
 
 // How one suffix went: whether there was room, 1 if it was new and else 0, the nodes in use, and, if there was room and b is 2 or more, the node above it.
-#[derive(Drop)]
+#[derive(Clone, Copy)]
 struct One {
     ok: bool,
     new: usize,

@@ -1,4 +1,6 @@
 // Lookups in tries, of several suffixes at a time: all go down one level before any goes on.
+#![tactic(auto)]
+
 ghost use Rattle.std.specs.Prelude.{◌≡◌, ℕ, ◌+◌, ◌-◌, ◌*◌, ◌^◌, ◌<◌, ◌≤◌, length, drop, get_or};
 ghost use Rattle.region.specs.Geometry.{node_words};
 ghost use Rattle.arena.specs.Arena.{nodes_in, Root, Tries};

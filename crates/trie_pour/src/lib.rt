@@ -1,4 +1,6 @@
 // A trie made of a strip of suffixes, and one poured out into a strip.
+#![tactic(auto)]
+
 ghost use Rattle.std.specs.Prelude.{◌≡◌, false, [], ◌∷◌, ◌++◌, ℕ, ◌+◌, ◌-◌, ◌*◌, ◌^◌, ◌<◌, ◌≤◌, length, drop, get_or};
 ghost use Rattle.lists.specs.Lists.{mem, put, sorted, Distinct};
 ghost use Rattle.model.specs.Room.{trie_nodes};
@@ -14,7 +16,7 @@ use sliced_int::byte;
 use trie::Inserted;
 
 // A new trie: its root, and the nodes in use afterwards.
-#[derive(Drop)]
+#[derive(Clone, Copy)]
 pub enum Planting {
     At(usize, usize),
     NoRoom,

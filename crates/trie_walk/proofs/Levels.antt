@@ -17,7 +17,7 @@ use Rattle.region.specs.Tries.{listed}
 use Rattle.region.specs.WellFormed.{Child}
 use Rattle.region.proofs.Bytes.{more-small}
 use Rattle.arena.specs.Arena.{nodes_in}
-use Rattle.trie_walk.specs.Words.{behind, behind_all}
+use Rattle.trie_walk.specs.Words.{behind_all}
 use Rattle.trie_walk.specs.Batch.{Left, Row, all_listed}
 use Rattle.trie_walk.proofs.Behind.{each-each, each-words}
 

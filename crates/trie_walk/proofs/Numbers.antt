@@ -11,7 +11,7 @@ use lib.Seq.{drop-nil}
 use Rattle.region.specs.Bits.{word_bit}
 use Rattle.bitvector.specs.Maps.{Lowest}
 use Rattle.trie_walk.specs.Pour.{state, poured, not_below}
-use Rattle.trie_walk.specs.Words.{behind, numbers_in, behind_all, suffixes}
+use Rattle.trie_walk.specs.Words.{behind, numbers_in, behind_all}
 use Rattle.trie_walk.proofs.Pours.{poured-put, poured-past, poured-over}
 use Rattle.trie_walk.proofs.Onward.{onward-append}
 use Rattle.trie_walk.proofs.Behind.{behind-none, behind-same, behind-first, behind-length}

@@ -1,5 +1,5 @@
 -- The values of a list that are not below a bound, poured: lists behind each other, lists by places, and lists that lie below the bound altogether. Assumes nothing.
-use mathlib.Core.Path.{◌≡◌, refl, sym, ap, ap₂, ◌∙◌, subst}
+use mathlib.Core.Path.{◌≡◌, refl, sym, ap, ◌∙◌, subst}
 use mathlib.Core.Bool.{Bool, true, false, cond}
 use mathlib.Core.List.{List, [], ◌∷◌, ◌++◌}
 use Prim.Native.Nat.{ℕ, zero, suc, ◌+◌, ◌-◌, ◌*◌, ◌/◌, ◌%◌, ◌^◌, ◌≤◌, ◌<◌}
@@ -15,9 +15,9 @@ use Rattle.region.specs.Bits.{word_bit}
 use Rattle.region.specs.Nodes.{Nodes}
 use Rattle.region.specs.Tries.{listed}
 use Rattle.bitvector.proofs.WordLaws.{bit-zero}
-use Rattle.trie_walk.specs.Pour.{Pour, state, poured, not_below}
+use Rattle.trie_walk.specs.Pour.{Pour, poured, not_below}
 use Rattle.trie_walk.specs.Words.{behind, numbers_in}
-use Rattle.trie_walk.proofs.Pours.{poured-append, poured-none}
+use Rattle.trie_walk.proofs.Pours.{poured-append}
 use Rattle.trie_walk.proofs.Behind.{each_none}
 
 -- what two lists keep, one after the other

@@ -1,4 +1,6 @@
 // The suffixes of a trie, read off its nodes: how many there are, and a part of them in ascending order.
+#![tactic(auto)]
+
 ghost use Rattle.std.specs.Prelude.{◌≡◌, ◌++◌, ◌≤◌, length, take, drop};
 ghost use Rattle.region.specs.Tries.{members};
 ghost use Rattle.arena.specs.Arena.{nodes_in, Tries, Root};
@@ -8,7 +10,7 @@ mod batch;
 mod words;
 
 // What is still to be passed over, and the place of the output for the next suffix.
-#[derive(Drop)]
+#[derive(Clone, Copy)]
 pub struct Step {
     pub skip: usize,
     pub at: usize,

@@ -5,7 +5,7 @@ use mathlib.Core.Logic.{◌≢◌}
 use mathlib.Core.Bool.{true}
 use mathlib.Core.List.{List, ◌++◌}
 use native.Mathlib.Omega.{arith}
-use native.Mathlib.Decide.{ℕ_discrete, dec_lt}
+use native.Mathlib.Decide.{dec_lt}
 use lib.ListN.{length, take, drop, get_or}
 use lib.Seq.{length-take-le, get_or-take}
 use borrow.Rule.Slice.PartMut.{put_mid}
@@ -19,7 +19,7 @@ use Rattle.region.specs.Geometry.{record_words, strip_words}
 use Rattle.region.specs.Areas.{Numbers}
 use Rattle.region.specs.Nodes.{Nodes}
 use Rattle.region.specs.Seen.{Seen}
-use Rattle.region.specs.WellFormed.{SpareNode, StackedNode, Vector, Shape}
+use Rattle.region.specs.WellFormed.{StackedNode, Vector, Shape}
 use Rattle.region.specs.Linked.{Rooted, Linked}
 use Rattle.region.proofs.Areas.{get_or-area}
 use Rattle.region.proofs.OnePath.{linked_of}

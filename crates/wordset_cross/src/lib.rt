@@ -1,4 +1,6 @@
 // The kind of a container in a region changes: a full vector becomes a trie with one suffix more, and a trie with one suffix more than a vector may have becomes a vector with one less.
+#![tactic(auto)]
+
 ghost use Rattle.std.specs.Prelude.{◌≡◌, false, ◌+◌, ◌*◌, ◌^◌, ◌<◌, ◌≤◌, length};
 ghost use Rattle.lists.specs.Lists.{mem};
 ghost use Rattle.model.specs.Room.{threshold};
@@ -19,7 +21,7 @@ use trie::{Removed, remove};
 use trie_pour::{Planting, plant, pour};
 
 // A trie without a suffix is poured out, with the nodes in use afterwards; or the suffix was none of it.
-#[derive(Drop)]
+#[derive(Clone, Copy)]
 enum Drained {
     Gone(usize),
     Absent,

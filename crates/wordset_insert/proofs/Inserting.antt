@@ -7,9 +7,8 @@ use mathlib.Core.List.{List, [], ◌∷◌, ◌++◌}
 use native.Mathlib.Omega.{arith}
 use lib.Arith.{digits_lt}
 use lib.Pow.{pow-add}
-use lib.Dec.{eqb}
 use lib.ListN.{length, length-append}
-use borrow.Author.Tests.{eqb-false, eq-eqb, ne_eqb, lt-ltb, le-ltb, lt-leb}
+use borrow.Author.Tests.{eq-eqb, ne_eqb, lt-ltb, le-ltb, lt-leb}
 use Rattle.lists.specs.Lists.{mem, put, sorted, up_to}
 use Rattle.lists.proofs.Laws.{by-test, mem-sorted, same-within}
 use Rattle.lists.proofs.Each.{length-up_to}
@@ -32,7 +31,7 @@ use Rattle.region.proofs.SeenBits.{seen-bits}
 use Rattle.region.proofs.Facts.{good, reads-good, reads-nodes}
 use Rattle.promises.specs.Reads.{ReadsAs}
 use Rattle.steps.proofs.Bridge.{has-clear, insert-clear, room-clear, has-set, insert-member, insert-other, old-good, length-added, room-member, room-other}
-use Rattle.wordset_lookup.proofs.Looks.{prefix-fits, bit-set, slot-fits, slot-kind}
+use Rattle.wordset_lookup.proofs.Looks.{prefix-fits, slot-fits, slot-kind}
 use Rattle.wordset_trie.specs.Answers.{ReadsWith, PutAs}
 use Rattle.wordset_trie.specs.declared.Outcome.{Outcome}
 use Rattle.wordset_trie.specs.declared.Outcome.TheVariants.{New, Old, NoRoom}

@@ -1,4 +1,6 @@
 // Inserts a word into a region: the prefix's bit, then the slot at its rank, then the vector or the trie there.
+#![tactic(auto)]
+
 ghost use Rattle.std.specs.Prelude.{◌≢◌, ◌+◌, ◌^◌, ◌<◌};
 ghost use Rattle.model.specs.Words.{joined};
 ghost use Rattle.region.specs.Areas.{numbers};

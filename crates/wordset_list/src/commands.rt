@@ -20,7 +20,7 @@ use wordset_remove::remove;
 use wordset_trie::Outcome;
 
 // What one command came to: its answer, or no room.
-#[derive(Drop)]
+#[derive(Clone, Copy)]
 pub enum Performed {
     Answered(u8),
     NoRoom,

@@ -1,4 +1,6 @@
 // Runs a command list on a region, and asks whether all words of a list are members. A whole list is judged before anything runs.
+#![tactic(auto)]
+
 ghost use Rattle.promises.specs.Answers.{listed, asked};
 ghost use Rattle.promises.specs.List.{ListPromise};
 ghost use Rattle.promises.specs.AllMembers.{AllPromise};

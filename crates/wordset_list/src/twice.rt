@@ -6,7 +6,7 @@ use crate::list;
 use promises::Listed;
 
 // What the two lists were told.
-#[derive(Drop)]
+#[derive(Clone, Copy)]
 struct Both {
     first: Listed,
     second: Listed,

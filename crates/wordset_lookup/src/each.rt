@@ -18,7 +18,7 @@ use lens::hints::{any_set, guess};
 use lens::read;
 
 // Where a word's answer is to be had: from the trie with the root, or, if that is no node, it is the answer here.
-#[derive(Drop)]
+#[derive(Clone, Copy)]
 struct Lead {
     root: usize,
     answer: u8,

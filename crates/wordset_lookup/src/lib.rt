@@ -1,4 +1,6 @@
 // Whether a region holds a word: the slot of its prefix, then the suffix in the vector or the trie of that slot.
+#![tactic(auto)]
+
 ghost use Rattle.std.specs.Prelude.{◌≡◌, ◌≢◌, ◌+◌, ◌^◌, ◌<◌, ◌≤◌};
 ghost use Rattle.lists.specs.Lists.{mem};
 ghost use Rattle.model.specs.Words.{prefix_of, suffix_of};

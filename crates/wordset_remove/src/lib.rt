@@ -1,4 +1,6 @@
 // Removes a word from a region. The answer is whether the word was there: the entry found in the vector, the bit in the trie's last node.
+#![tactic(auto)]
+
 ghost use Rattle.std.specs.Prelude.{◌≡◌, ◌+◌, ◌^◌, ◌<◌};
 ghost use Rattle.model.specs.Commands.{Code};
 ghost use Rattle.region.specs.Areas.{numbers};

@@ -1,4 +1,6 @@
 // Container slots: a slot taken from the free stack for a new prefix, and a slot given back when its container is empty.
+#![tactic(auto)]
+
 ghost use Rattle.std.specs.Prelude.{◌≡◌, [], ◌∷◌, ◌^◌, ◌<◌};
 ghost use Rattle.model.specs.Change.{placed, dropped, top, rest, with};
 ghost use Rattle.region.specs.Areas.{numbers};

@@ -6,7 +6,7 @@ use mathlib.Core.List.{List, [], ◌∷◌}
 use native.Mathlib.Omega.{arith}
 use lib.ListN.{length, take, get_or}
 use lib.Seq.{length-take-le, get_or-take}
-use Rattle.lists.specs.Lists.{mem, one, put, Ascending}
+use Rattle.lists.specs.Lists.{mem, put, Ascending}
 use Rattle.lists.proofs.Laws.{ascending-put, ascending-distinct}
 use Rattle.model.specs.Words.{bytes_of}
 use Rattle.model.specs.Good.{GoodSuffixes}

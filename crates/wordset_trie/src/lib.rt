@@ -1,4 +1,6 @@
 // Changes of a trie in a region: node stack and nodes are lent as one writable arena, then its length, the nodes in use and the member count are stored.
+#![tactic(auto)]
+
 ghost use Rattle.std.specs.Prelude.{◌≡◌, ℕ, ◌+◌, ◌^◌, ◌<◌, length, get_or};
 ghost use Rattle.model.specs.Room.{threshold};
 ghost use Rattle.region.specs.Areas.{numbers};
@@ -12,7 +14,7 @@ use trie::{Inserted, Removed, insert, remove};
 use trie_each::insert_each;
 
 // What a put did.
-#[derive(Drop)]
+#[derive(Clone, Copy)]
 pub enum Outcome {
     New,
     Old,

@@ -1,11 +1,13 @@
 // Changes of a vector in a region: its entries are lent as one writable strip, then its length and the member count are stored.
+#![tactic(auto)]
+
 ghost use Rattle.std.specs.Prelude.{◌≡◌, false, [], ◌∷◌, ◌++◌, ℕ, ◌+◌, ◌^◌, ◌<◌, ◌≤◌, length, get_or};
 ghost use Rattle.lists.specs.Lists.{mem};
 ghost use Rattle.model.specs.Room.{threshold};
 ghost use Rattle.model.specs.Change.{placed, swap_out, with};
 ghost use Rattle.region.specs.Areas.{numbers};
 ghost use Rattle.region.specs.Seen.{seen};
-ghost use Rattle.region.specs.Read.{suffixes as suffixesOf, reading};
+ghost use Rattle.region.specs.Read.{suffixes as suffixes_of, reading};
 ghost use Rattle.region.specs.WellFormed.{Ready, WellFormed};
 ghost use Rattle.promises.specs.Reads.{ReadsAs};
 ghost use Rattle.strip.specs.Entries.{gathered};
@@ -32,8 +34,8 @@ pub fn push(region: &mut [u64], c: usize, s: u64)
     requires c_value { (seen (numbers region.old) region.old).kind c ≡ 1 }
     requires c_bound_2 { (seen (numbers region.old) region.old).size c < threshold }
     requires s_bound { s < 2 ^ (numbers region.old).S }
-    requires c_value_2 { mem s (suffixesOf (numbers region.old) (seen (numbers region.old) region.old) c) ≡ false }
-    ensures { ReadsAs region.old (with (reading region.old) (placed ((seen (numbers region.old) region.old).prefix c) 0 (suffixesOf (numbers region.old) (seen (numbers region.old) region.old) c ++ (s ∷ [])) (reading region.old).containers) (reading region.old).free) region.new }
+    requires c_value_2 { mem s (suffixes_of (numbers region.old) (seen (numbers region.old) region.old) c) ≡ false }
+    ensures { ReadsAs region.old (with (reading region.old) (placed ((seen (numbers region.old) region.old).prefix c) 0 (suffixes_of (numbers region.old) (seen (numbers region.old) region.old) c ++ (s ∷ [])) (reading region.old).containers) (reading region.old).free) region.new }
 {
     let len = read::size(region, c);
     let count = read::count(region);
@@ -51,7 +53,7 @@ pub fn push_all(region: &mut [u64], c: usize, suffixes: &[u64])
     requires c_value { (seen (numbers region.old) region.old).kind c ≡ 1 }
     requires suffixes_bound { (seen (numbers region.old) region.old).size c + length suffixes.now ≤ threshold }
     requires by_index { (i : ℕ) → i < length suffixes.now → get_or suffixes.now i 0 < 2 ^ (numbers region.old).S }
-    ensures { ReadsAs region.old (with (reading region.old) (placed ((seen (numbers region.old) region.old).prefix c) 0 (gathered (suffixesOf (numbers region.old) (seen (numbers region.old) region.old) c) suffixes.now) (reading region.old).containers) (reading region.old).free) region.new }
+    ensures { ReadsAs region.old (with (reading region.old) (placed ((seen (numbers region.old) region.old).prefix c) 0 (gathered (suffixes_of (numbers region.old) (seen (numbers region.old) region.old) c) suffixes.now) (reading region.old).containers) (reading region.old).free) region.new }
 {
     let len = read::size(region, c);
     let count = read::count(region);
@@ -67,7 +69,7 @@ pub fn take(region: &mut [u64], c: usize, i: usize)
     requires c_value { (seen (numbers region.old) region.old).kind c ≡ 1 }
     requires bound { 2 ≤ (seen (numbers region.old) region.old).size c }
     requires i_bound { i < (seen (numbers region.old) region.old).size c }
-    ensures { ReadsAs region.old (with (reading region.old) (placed ((seen (numbers region.old) region.old).prefix c) 0 (swap_out ((seen (numbers region.old) region.old).entry c i) (suffixesOf (numbers region.old) (seen (numbers region.old) region.old) c)) (reading region.old).containers) (reading region.old).free) region.new }
+    ensures { ReadsAs region.old (with (reading region.old) (placed ((seen (numbers region.old) region.old).prefix c) 0 (swap_out ((seen (numbers region.old) region.old).entry c i) (suffixes_of (numbers region.old) (seen (numbers region.old) region.old) c)) (reading region.old).containers) (reading region.old).free) region.new }
 {
     let len = read::size(region, c);
     let count = read::count(region);

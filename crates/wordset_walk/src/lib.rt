@@ -1,4 +1,6 @@
 // Walks a region: its words in order, prefixes ascending, from a place on, as far as the output reaches.
+#![tactic(auto)]
+
 ghost use Rattle.std.specs.Prelude.{◌≡◌, length};
 ghost use Rattle.region.specs.Read.{reading};
 ghost use Rattle.region.specs.WellFormed.{WellFormed};

@@ -12,14 +12,14 @@ use lens::read;
 use promises::Stepped;
 
 // The region, and the number of the word that is handed out next.
-#[derive(Drop)]
+#[derive(Clone, Copy)]
 pub struct Walker<'a> {
     pub region: &'a [u64],
     pub place: usize,
 }
 
 // Set a walker on a region: the place where it stands.
-#[derive(Drop)]
+#[derive(Clone, Copy)]
 pub enum Opened {
     At(usize),
     Malformed,

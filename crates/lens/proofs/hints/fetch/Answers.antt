@@ -1,0 +1,19 @@
+-- A place is held below k where it is looked at. Assumes nothing.
+use Rattle.std.proofs.Common.{arith}
+use Rattle.lens.proofs.Ranks.{place-small, slot_small}
+use Rattle.lens.proofs.hints.fetch.Goals as goal
+
+pub slot-requires : goal.slot-requires
+slot-requires c =
+    record {
+      ready = c.requires.well_formed.ready;
+      i_bound = place-small c.requires.well_formed c.clamped-m.result (omega (arith, c.clamped-m.ensures, c.requires.k_value));
+    }
+
+pub entry-first-requires : goal.entry-first-requires
+entry-first-requires c =
+    record {
+      ready = c.requires.well_formed.ready;
+      c_bound = rw c.slot.ensures (slot_small c.requires.well_formed c.clamped-m.result (omega (arith, c.clamped-m.ensures, c.requires.k_value)));
+      i_lt_strip_words = omega arith;
+    }

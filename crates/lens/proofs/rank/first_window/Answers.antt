@@ -1,0 +1,6 @@
+-- At first the rank lies anywhere among the containers in use. Assumes nothing.
+use Rattle.lens.proofs.Ranks.{search-start}
+use Rattle.lens.proofs.rank.first_window.Goals as goal
+
+pub returns : goal.returns
+returns c = search-start c.requires.well_formed c.args.p c.k-k.result c.requires.p_bound c.k-k.ensures

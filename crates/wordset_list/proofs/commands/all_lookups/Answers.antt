@@ -1,0 +1,23 @@
+-- The bits joined up to i are 0 if every code before i is. Assumes nothing.
+use mathlib.Core.Path.{sym, ap, ◌∙◌}
+use mathlib.Core.Bool.{Bool, ◌&&◌}
+use Prim.Native.Nat.{◌<◌}
+use native.Mathlib.Omega.{arith}
+use native.Mathlib.Numerals.{add-one}
+use lib.ListN.{length, get_or}
+use lib.Seq.{take_all}
+use Rattle.lists.specs.Lists.{all}
+use Rattle.wordset_list.specs.Performing.{is_lookup}
+use Rattle.wordset_list.proofs.Judging.{or-none}
+use Rattle.wordset_list.proofs.Parts.{all-one-more}
+use Rattle.wordset_list.proofs.commands.all_lookups.Goals as goal
+
+pub loop-i-preserved : goal.loop-i-preserved
+loop-i-preserved c =
+    let xs = c.args.codes.now in
+    let i = c.loop-i.i in
+    let h : i < length xs = omega arith in
+    (omega arith, rw add-one (or-none (get_or xs i 0) c.loop-i.bits ∙ ap (λ (b : Bool). b && is_lookup (get_or xs i 0)) c.loop-i.invariant.1 ∙ sym (all-one-more is_lookup xs i h)))
+
+pub returns : goal.returns
+returns c = c.loop-i.invariant.1 ∙ ap (all is_lookup) (take_all c.loop-i.i c.args.codes.now (omega arith))
