@@ -11,7 +11,7 @@ const LAST_FRAME: u64 = 9999;
 const NO_KEY: u64 = u64::MAX;
 
 // What became of commands.
-#[derive(Drop)]
+#[derive(Clone, Copy)]
 pub struct Ran {
     // how many are done, how many of them answered 1, and how many would by the script's own list
     pub done: u64,
@@ -124,7 +124,7 @@ fn told(
 }
 
 // How many commands of a list are done, and the number of a refusal, or 0.
-#[derive(Drop)]
+#[derive(Clone, Copy)]
 struct Outcome {
     done: usize,
     refusal: u64,

@@ -4,6 +4,7 @@ ghost use Rattle.std.specs.Prelude.{◌≤◌, ◌<◌};
 use super::show;
 use promises::Unpacked;
 use replay::say;
+use std::io;
 
 // What is answered for a key of another kind.
 const NO_BLOCK: usize = 100;
@@ -46,59 +47,59 @@ fn counted(keys: &[u64; 8192], from: usize, to: usize, kind: u64, counts: &mut [
     many
 }
 
-fn character(many: u64) {
+fn character(rt: &impl Print, many: u64) -> io::Result<()> {
     match many {
-        0 => say::text(b"."),
-        100 => say::text(b"#"),
-        _ => say::text(b"+"),
+        0 => say::text(rt, b"."),
+        100 => say::text(rt, b"#"),
+        _ => say::text(rt, b"+"),
     }
 }
 
 // A character for each hundred, up to the last that has a frame.
-fn characters(counts: &[u64; 100], many: u64) {
+fn characters(rt: &impl Print, counts: &[u64; 100], many: u64) -> io::Result<()> {
     let mut left = many;
     let mut i: usize = 0;
     while i < 100 {
         if left == 0 {
-            return;
+            return Ok(());
         }
         let here = counts[i];
-        character(here);
+        character(rt, here)?;
         if here > left {
-            return;
+            return Ok(());
         }
         left -= here;
         i += 1;
     }
+    Ok(())
 }
 
 // The start of a row: rollover, folder and kind, the kinds as wide as each other.
-fn title(rollover: u64, folder: u64, kind: u64) {
-    say::text(b"  rollover ");
-    say::number(rollover);
-    say::text(b", folder ");
-    say::number(folder);
+fn title(rt: &impl Print, rollover: u64, folder: u64, kind: u64) -> io::Result<()> {
+    say::text(rt, b"  rollover ")?;
+    say::number(rt, rollover)?;
+    say::text(rt, b", folder ")?;
+    say::number(rt, folder)?;
     if kind == 0 {
-        say::text(b", raw      ");
-        return;
+        return say::text(rt, b", raw      ");
     }
-    say::text(b", sidecar  ");
+    say::text(rt, b", sidecar  ")
 }
 
 // The row of a kind, for keys of one folder.
-fn row(keys: &[u64; 8192], from: usize, to: usize, kind: u64)
+fn row(rt: &impl Print, keys: &[u64; 8192], from: usize, to: usize, kind: u64) -> io::Result<()>
     requires { (from < to) × (to ≤ 8192) }
 {
     let mut counts = [0u64; 100];
     let many = counted(keys, from, to, kind, &mut counts);
     if many == 0 {
-        return;
+        return Ok(());
     }
-    title(keys[from] >> 25 & 7, keys[from] >> 15 & 1023, kind);
-    characters(&counts, many);
-    say::text(b"  ");
-    say::number(many);
-    say::text(b"\n");
+    title(rt, keys[from] >> 25 & 7, keys[from] >> 15 & 1023, kind)?;
+    characters(rt, &counts, many)?;
+    say::text(rt, b"  ")?;
+    say::number(rt, many)?;
+    say::text(rt, b"\n")
 }
 
 // Where the keys of the folder of the one at `from` end: above frame (14 bits) and kind (1 bit) stands the folder.
@@ -135,26 +136,27 @@ fn frames(keys: &[u64; 8192], n: usize) -> u64
     count
 }
 
-fn rows(keys: &[u64; 8192], n: usize)
+fn rows(rt: &impl Print, keys: &[u64; 8192], n: usize) -> io::Result<()>
     requires { n ≤ 8192 }
 {
     let mut i: usize = 0;
     while i < n {
         let end = folder_end(keys, i, n);
-        row(keys, i, end, 0);
-        row(keys, i, end, 1);
+        row(rt, keys, i, end, 0)?;
+        row(rt, keys, i, end, 1)?;
         i = end;
     }
+    Ok(())
 }
 
 // What a card opens with: n keys, ascending.
-pub fn opens(card: u64, keys: &[u64; 8192], n: usize) {
+pub fn opens(rt: &impl Print, card: u64, keys: &[u64; 8192], n: usize) -> io::Result<()> {
     if n > 8192 {
-        return;
+        return Ok(());
     }
-    say::text(b"card ");
-    say::number(card);
-    say::text(b" opens with ");
-    show::plural(frames(keys, n), b" frame\n", b" frames\n");
-    rows(keys, n);
+    say::text(rt, b"card ")?;
+    say::number(rt, card)?;
+    say::text(rt, b" opens with ")?;
+    show::plural(rt, frames(keys, n), b" frame\n", b" frames\n")?;
+    rows(rt, keys, n)
 }

@@ -1,5 +1,7 @@
 // The support desk's replay: a script of plain lines on standard input, carried out over the proved set, and what came of each line in words.
-// desk/README.md says what a script may say. A program of Rattle has no exit status: where something failed the last line is `failed`, and desk/replay makes it status 1.
+// desk/README.md says what a script may say. Its exit status does not tell how the script went: where something failed the last line is `failed`, and desk/replay makes that status 1.
+#![tactic(auto)]
+
 mod batch;
 mod grid;
 mod own;
@@ -10,13 +12,13 @@ mod text;
 mod walk;
 
 use batch::Ran;
-use libc::STDIN_FILENO;
 use promises::{Checked, Made};
-use replay::say;
+use replay::{input, say};
 use script::{Batch, Command, Expected};
+use std::io;
 use tally::Tally;
 
-#[derive(Drop)]
+#[derive(Clone, Copy)]
 pub struct State {
     // the number of the line read last
     pub line: u64,
@@ -68,232 +70,272 @@ impl State {
         self
     }
 
-    fn refused(self, refusal: u64) -> Self {
-        show::refusal(refusal);
-        say::text(b"\n");
-        self.stopped()
+    fn refused(self, rt: &impl Print, refusal: u64) -> io::Result<Self> {
+        show::refusal(rt, refusal)?;
+        say::text(rt, b"\n")?;
+        Ok(self.stopped())
     }
 }
 
-fn make_region(s: State, region: &mut [u64], cards: u64, nodes: u64) -> State {
+fn make_region(
+    rt: &impl Print,
+    s: State,
+    region: &mut [u64],
+    cards: u64,
+    nodes: u64,
+) -> io::Result<State> {
     match make::make(region, 12, 28, cards, nodes) {
         Made::Done => {
-            show::room(cards, nodes);
-            s.with_region()
+            show::room(rt, cards, nodes)?;
+            Ok(s.with_region())
         }
-        Made::OutOfRange => s.refused(2),
-        Made::TooShort => s.refused(3),
+        Made::OutOfRange => s.refused(rt, 2),
+        Made::TooShort => s.refused(rt, 3),
     }
 }
 
 // Whether a batch would take the script's own list past its end.
-fn fits(own_keys: &[u64; 8192], n: usize, b: Batch) -> bool {
+fn fits(rt: &impl Print, own_keys: &[u64; 8192], n: usize, b: Batch) -> io::Result<bool> {
     if b.code != 1 {
-        return true;
+        return Ok(true);
     }
     if n > own::MOST {
-        show::too_many(n, 0);
-        return false;
+        show::too_many(rt, n, 0)?;
+        return Ok(false);
     }
     let new = batch::fresh(own_keys, n, b);
     if new <= (own::MOST - n) as u64 {
-        return true;
+        return Ok(true);
     }
-    show::too_many(n, new);
-    false
+    show::too_many(rt, n, new)?;
+    Ok(false)
 }
 
 // Says what came of a batch, and holds it against the script's own list.
-fn answered(s: State, code: u8, ran: Ran) -> State {
+fn answered(rt: &impl Print, s: State, code: u8, ran: Ran) -> io::Result<State> {
     if ran.yes <= ran.done {
-        show::answers(code, ran.yes, ran.done - ran.yes);
+        show::answers(rt, code, ran.yes, ran.done - ran.yes)?;
     }
     if ran.yes == ran.own {
-        say::text(b"\n");
-        return s;
+        say::text(rt, b"\n")?;
+        return Ok(s);
     }
-    say::text(b"; BUT BY THE SCRIPT'S OWN LIST ");
-    say::number(ran.own);
-    say::text(b"\n");
-    s.differing()
+    say::text(rt, b"; BUT BY THE SCRIPT'S OWN LIST ")?;
+    say::number(rt, ran.own)?;
+    say::text(rt, b"\n")?;
+    Ok(s.differing())
 }
 
-fn frames(before: State, region: &mut [u64], own_keys: &mut [u64; 8192], b: Batch) -> State {
-    if !fits(own_keys, before.keys, b) {
-        return before.stopped();
+fn frames(
+    rt: &impl Print,
+    before: State,
+    region: &mut [u64],
+    own_keys: &mut [u64; 8192],
+    b: Batch,
+) -> io::Result<State> {
+    if !fits(rt, own_keys, before.keys, b)? {
+        return Ok(before.stopped());
     }
     let ran = batch::run(region, own_keys, before.keys, b);
     let s = before.with_keys(ran.keys);
     if ran.refusal > 0 {
-        show::stopped(b, ran);
-        return s.stopped();
+        show::stopped(rt, b, ran)?;
+        return Ok(s.stopped());
     }
-    show::batch(b);
-    answered(s, b.code, ran)
+    show::batch(rt, b)?;
+    answered(rt, s, b.code, ran)
 }
 
-fn open(s: State, region: &[u64], card: u64) -> State {
+fn open(rt: &impl Print, s: State, region: &[u64], card: u64) -> io::Result<State> {
     let mut found = [0u64; 8192];
     let f = walk::on_card(region, card, &mut found);
     if f.refusal > 0 {
-        return s.refused(f.refusal);
+        return s.refused(rt, f.refusal);
     }
-    grid::opens(card, &found, f.keys);
-    s
+    grid::opens(rt, card, &found, f.keys)?;
+    Ok(s)
 }
 
-fn walk_all(s: State, region: &[u64], own_keys: &[u64; 8192]) -> State {
-    let t = walk::all(region, own_keys, s.keys, Tally::new(false));
+fn walk_all(
+    rt: &impl Print,
+    s: State,
+    region: &[u64],
+    own_keys: &[u64; 8192],
+) -> io::Result<State> {
+    let t = walk::all(rt, region, own_keys, s.keys, Tally::new(false))?;
     if t.refusal > 0 {
-        return s.refused(t.refusal);
+        return s.refused(rt, t.refusal);
     }
-    say::text(b"walk: ");
-    show::plural(t.keys, b" key\n", b" keys\n");
-    walk::ends(region, t.keys);
-    s
+    say::text(rt, b"walk: ")?;
+    show::plural(rt, t.keys, b" key\n", b" keys\n")?;
+    walk::ends(rt, region, t.keys)?;
+    Ok(s)
 }
 
-fn count(s: State, region: &[u64]) -> State {
+fn count(rt: &impl Print, s: State, region: &[u64]) -> io::Result<State> {
     if region.len() < 16 {
-        return s.refused(3);
+        return s.refused(rt, 3);
     }
     match inspect::check(region) {
         Checked::WellFormed => {
-            show::counts(region[5], region[3], region[7], region[6], region[4]);
-            s
+            show::counts(rt, region[5], region[3], region[7], region[6], region[4])?;
+            Ok(s)
         }
-        Checked::Malformed => s.refused(1),
+        Checked::Malformed => s.refused(rt, 1),
     }
 }
 
-fn wrong(s: State, what: Expected) -> State {
-    show::expected(what);
-    s.stopped()
+fn wrong(rt: &impl Print, s: State, what: Expected) -> io::Result<State> {
+    show::expected(rt, what)?;
+    Ok(s.stopped())
 }
 
 // Carries a command out.
-fn carry_out(c: Command, s: State, region: &mut [u64], own_keys: &mut [u64; 8192]) -> State {
+fn carry_out(
+    rt: &impl Print,
+    c: Command,
+    s: State,
+    region: &mut [u64],
+    own_keys: &mut [u64; 8192],
+) -> io::Result<State> {
     match c {
-        Command::Nothing => s,
-        Command::Wrong(what) => wrong(s, what),
-        Command::Region(cards, nodes) => make_region(s, region, cards, nodes),
-        Command::Frames(b) => frames(s, region, own_keys, b),
-        Command::Open(card) => open(s, region, card),
-        Command::Walk => walk_all(s, region, own_keys),
-        Command::Count => count(s, region),
+        Command::Nothing => Ok(s),
+        Command::Wrong(what) => wrong(rt, s, what),
+        Command::Region(cards, nodes) => make_region(rt, s, region, cards, nodes),
+        Command::Frames(b) => frames(rt, s, region, own_keys, b),
+        Command::Open(card) => open(rt, s, region, card),
+        Command::Walk => walk_all(rt, s, region, own_keys),
+        Command::Count => count(rt, s, region),
     }
 }
 
 // Carries a line out.
-fn step(line: &[u8], s: State, region: &mut [u64], own_keys: &mut [u64; 8192]) -> State {
+fn step(
+    rt: &impl Print,
+    line: &[u8],
+    s: State,
+    region: &mut [u64],
+    own_keys: &mut [u64; 8192],
+) -> io::Result<State> {
     let c = script::read(line, s.made);
     if let Command::Nothing = c {
-        return s;
+        return Ok(s);
     }
-    say::line(s.line);
-    carry_out(c, s, region, own_keys)
+    say::line(rt, s.line)?;
+    carry_out(rt, c, s, region, own_keys)
 }
 
 // Line after line, up to the first that is wrong or refused.
-fn all_lines(text: &[u8], region: &mut [u64], own_keys: &mut [u64; 8192]) -> State {
+fn all_lines(
+    rt: &impl Print,
+    text: &[u8],
+    region: &mut [u64],
+    own_keys: &mut [u64; 8192],
+) -> io::Result<State> {
     let mut s = State::new();
     let mut at: usize = 0;
     while at < text.len() {
         let end = text::line_end(text, at);
-        s = step(&text[at..end], s.next_line(), region, own_keys);
+        s = step(rt, &text[at..end], s.next_line(), region, own_keys)?;
         if !s.going {
-            say::text(b"The lines after it were not run.\n");
-            return s;
+            say::text(rt, b"The lines after it were not run.\n")?;
+            return Ok(s);
         }
         at = end + 1;
     }
-    s
+    Ok(s)
 }
 
 // Says of the keys that nobody put there.
-fn strangers(t: Tally) {
+fn strangers(rt: &impl Print, t: Tally) -> io::Result<()> {
     if t.own >= t.keys {
-        return;
+        return Ok(());
     }
     show::plural(
+        rt,
         t.keys - t.own,
         b" key stands where nobody put it, on card ",
         b" keys stand where nobody put them, the first on card ",
-    );
-    say::number(t.stranger >> 28);
-    say::text(b":");
-    show::key(t.stranger);
-    say::text(b"\n");
+    )?;
+    say::number(rt, t.stranger >> 28)?;
+    say::text(rt, b":")?;
+    show::key(rt, t.stranger)?;
+    say::text(rt, b"\n")
 }
 
 // Says of the keys that the script put there and that are not there.
-fn missing(t: Tally, keys: u64) {
+fn missing(rt: &impl Print, t: Tally, keys: u64) -> io::Result<()> {
     if t.own >= keys {
-        return;
+        return Ok(());
     }
     show::plural(
+        rt,
         keys - t.own,
         b" key that the script put is not there\n",
         b" keys that the script put are not there\n",
-    );
+    )
 }
 
-fn all_well(keys: u64, cards: u64) {
-    say::text(b"Every key stands where the script put it: ");
-    show::plural(keys, b" key on ", b" keys on ");
-    show::plural(cards, b" card.\n", b" cards.\n");
+fn all_well(rt: &impl Print, keys: u64, cards: u64) -> io::Result<()> {
+    say::text(rt, b"Every key stands where the script put it: ")?;
+    show::plural(rt, keys, b" key on ", b" keys on ")?;
+    show::plural(rt, cards, b" card.\n", b" cards.\n")
 }
 
 // Holds the set against the script's own list. Yes, where every key stands where the script put it.
-fn held(t: Tally, keys: u64) -> bool {
-    t.say_card();
+fn held(rt: &impl Print, t: Tally, keys: u64) -> io::Result<bool> {
+    t.say_card(rt)?;
     if t.refusal > 0 {
-        show::refusal(t.refusal);
-        say::text(b"\n");
-        return false;
+        show::refusal(rt, t.refusal)?;
+        say::text(rt, b"\n")?;
+        return Ok(false);
     }
-    strangers(t);
-    missing(t, keys);
+    strangers(rt, t)?;
+    missing(rt, t, keys)?;
     if t.own != t.keys {
-        return false;
+        return Ok(false);
     }
     if t.own != keys {
-        return false;
+        return Ok(false);
     }
-    all_well(keys, t.cards);
-    true
+    all_well(rt, keys, t.cards)?;
+    Ok(true)
 }
 
 // What the whole comes to.
-fn verdict(s: State, region: &[u64], own_keys: &[u64; 8192]) -> bool {
+fn verdict(rt: &impl Print, s: State, region: &[u64], own_keys: &[u64; 8192]) -> io::Result<bool> {
     if s.made {
         if !held(
-            walk::all(region, own_keys, s.keys, Tally::new(true)),
+            rt,
+            walk::all(rt, region, own_keys, s.keys, Tally::new(true))?,
             s.keys as u64,
-        ) {
-            return false;
+        )? {
+            return Ok(false);
         }
     } else {
-        say::text(b"There is no region.\n");
+        say::text(rt, b"There is no region.\n")?;
     }
     if !s.agreed {
-        say::text(b"An answer was not as by the script's own list.\n");
-        return false;
+        say::text(rt, b"An answer was not as by the script's own list.\n")?;
+        return Ok(false);
     }
-    s.going
+    Ok(s.going)
 }
 
-fn main() {
+fn main(rt: HostRuntime) -> io::Result<()> {
     let mut text = [0u8; 32768];
-    let n = io::read_full(STDIN_FILENO, &mut text);
+    let n = input::fill(&mut rt.reader(), &mut text)?;
     if n == 32768 {
-        say::text(b"the script is longer than 32767 bytes: nothing was run\nfailed\n");
-        return;
+        return say::text(
+            &rt,
+            b"the script is longer than 32767 bytes: nothing was run\nfailed\n",
+        );
     }
     let mut region = [0u64; 25280];
     let mut own_keys = [0u64; 8192];
-    let s = all_lines(&text[..n], &mut region, &mut own_keys);
-    if !verdict(s, &region, &own_keys) {
-        say::text(b"failed\n");
+    let s = all_lines(&rt, &text[..n], &mut region, &mut own_keys)?;
+    if !verdict(&rt, s, &region, &own_keys)? {
+        return say::text(&rt, b"failed\n");
     }
+    Ok(())
 }

@@ -91,7 +91,7 @@ pub fn take(keys: &mut [u64; 8192], n: usize, key: u64) -> usize {
 }
 
 // How many keys there are after a list of commands, and how many commands answer 1.
-#[derive(Drop)]
+#[derive(Clone, Copy)]
 pub struct Followed {
     pub keys: usize,
     pub yes: u64,

@@ -2,7 +2,7 @@
 use super::text;
 
 // Frames of one folder, first and last included, of one kind: 0 raw, 1 sidecar.
-#[derive(Drop)]
+#[derive(Clone, Copy)]
 pub struct Batch {
     // the command of a list: 0 look, 1 cache, 2 delete
     pub code: u8,
@@ -15,7 +15,7 @@ pub struct Batch {
 }
 
 // What was expected of a line.
-#[derive(Drop)]
+#[derive(Clone, Copy)]
 pub enum Expected {
     Command,
     Region,
@@ -27,7 +27,7 @@ pub enum Expected {
 }
 
 // What was expected of a key.
-#[derive(Drop)]
+#[derive(Clone, Copy)]
 pub enum Part {
     Card,
     Rollover,
@@ -37,7 +37,7 @@ pub enum Part {
     Kind,
 }
 
-#[derive(Drop)]
+#[derive(Clone, Copy)]
 pub enum Command {
     Nothing,
     Region(u64, u64),
@@ -49,14 +49,14 @@ pub enum Command {
 }
 
 // A number out of a line, and the place behind it.
-#[derive(Drop)]
+#[derive(Clone, Copy)]
 struct Number {
     value: u64,
     to: usize,
 }
 
 // FRAME or FIRST-LAST, and the place behind it.
-#[derive(Drop)]
+#[derive(Clone, Copy)]
 struct Range {
     first: u64,
     last: u64,

@@ -1,8 +1,9 @@
 // What a walk comes to, held against the script's own list.
 use super::show;
 use replay::say;
+use std::io;
 
-#[derive(Drop)]
+#[derive(Clone, Copy)]
 pub struct Tally {
     // whether a line is printed for each card
     pub aloud: bool,
@@ -43,35 +44,36 @@ impl Tally {
     }
 
     // Says how many keys the last card has.
-    pub fn say_card(self) {
+    pub fn say_card(self, rt: &impl Print) -> io::Result<()> {
         if self.on_card == 0 {
-            return;
+            return Ok(());
         }
         if self.aloud {
-            say::text(b"card ");
-            say::number(self.card);
-            say::text(b": ");
-            show::plural(self.on_card, b" key\n", b" keys\n");
+            say::text(rt, b"card ")?;
+            say::number(rt, self.card)?;
+            say::text(rt, b": ")?;
+            return show::plural(rt, self.on_card, b" key\n", b" keys\n");
         }
+        Ok(())
     }
 
     // Goes on to a card, if it is another one.
-    fn at_card(mut self, card: u64) -> Self {
+    fn at_card(mut self, rt: &impl Print, card: u64) -> io::Result<Self> {
         if self.keys > 0 {
             if card == self.card {
-                return self;
+                return Ok(self);
             }
         }
-        self.say_card();
+        self.say_card(rt)?;
         self.cards = up(self.cards);
         self.card = card;
         self.on_card = 0;
-        self
+        Ok(self)
     }
 
     // Counts a key.
-    pub fn met(self, key: u64, own: bool) -> Self {
-        let mut t = self.at_card(key >> 28);
+    pub fn met(self, rt: &impl Print, key: u64, own: bool) -> io::Result<Self> {
+        let mut t = self.at_card(rt, key >> 28)?;
         if own {
             t.own = up(t.own);
         } else if t.own == t.keys {
@@ -79,6 +81,6 @@ impl Tally {
         }
         t.keys = up(t.keys);
         t.on_card = up(t.on_card);
-        t
+        Ok(t)
     }
 }

@@ -5,7 +5,7 @@ ghost use Rattle.std.specs.Prelude.{◌≤◌, length};
 pub const NO_NUMBER: u64 = u64::MAX;
 
 // Where a word of a line starts and ends. At the end of the line it is empty.
-#[derive(Drop)]
+#[derive(Clone, Copy)]
 pub struct Word {
     pub from: usize,
     pub to: usize,

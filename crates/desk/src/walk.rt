@@ -5,12 +5,13 @@ use super::tally::Tally;
 use super::{own, show};
 use promises::Walked;
 use replay::say;
+use std::io;
 
 // A walk that comes here is not gone on with: a script's keys are at most 8,192.
 const FAR: u64 = 65536;
 
 // How many words were written, or the number of a refusal.
-#[derive(Drop)]
+#[derive(Clone, Copy)]
 pub struct Piece {
     pub many: usize,
     pub refusal: u64,
@@ -57,7 +58,7 @@ fn sifted(words: &[u64; 2048], many: usize, card: u64, found: &mut [u64; 8192], 
 }
 
 // How many keys were found, or the number of a refusal.
-#[derive(Drop)]
+#[derive(Clone, Copy)]
 pub struct Found {
     pub keys: usize,
     pub refusal: u64,
@@ -93,54 +94,62 @@ pub fn on_card(region: &[u64], card: u64, found: &mut [u64; 8192]) -> Found {
 
 // Counts the words, each held against the script's own list.
 fn counted(
+    rt: &impl Print,
     words: &[u64; 2048],
     many: usize,
     own_keys: &[u64; 8192],
     n: usize,
     before: Tally,
-) -> Tally
+) -> io::Result<Tally>
     requires { many ≤ 2048 }
 {
     let mut t = before;
     let mut i: usize = 0;
     while i < many {
         let key = words[i];
-        t = t.met(key, own::has(own_keys, n, key));
+        t = t.met(rt, key, own::has(own_keys, n, key))?;
         i += 1;
     }
-    t
+    Ok(t)
 }
 
 // Walks the whole set, and holds it against the script's own list.
-pub fn all(region: &[u64], own_keys: &[u64; 8192], n: usize, before: Tally) -> Tally {
+pub fn all(
+    rt: &impl Print,
+    region: &[u64],
+    own_keys: &[u64; 8192],
+    n: usize,
+    before: Tally,
+) -> io::Result<Tally> {
     let mut words = [0u64; 2048];
     let mut t = before;
     let mut at: u64 = 0;
     while at < FAR {
         let p = piece_at(region, at, &mut words);
         if p.refusal > 0 {
-            return t.refused(p.refusal);
+            return Ok(t.refused(p.refusal));
         }
         if p.many == 0 {
-            return t;
+            return Ok(t);
         }
-        t = counted(&words, p.many, own_keys, n, t);
+        t = counted(rt, &words, p.many, own_keys, n, t)?;
         at += p.many as u64;
     }
-    t
+    Ok(t)
 }
 
 // The first `many` words, a line each.
-fn lines(words: &[u64; 2048], many: usize)
+fn lines(rt: &impl Print, words: &[u64; 2048], many: usize) -> io::Result<()>
     requires { many ≤ 2048 }
 {
     let mut i: usize = 0;
     while i < many {
-        say::text(b" ");
-        show::key(words[i]);
-        say::text(b"\n");
+        say::text(rt, b" ")?;
+        show::key(rt, words[i])?;
+        say::text(rt, b"\n")?;
         i += 1;
     }
+    Ok(())
 }
 
 fn least(a: usize, b: usize) -> usize
@@ -150,23 +159,22 @@ fn least(a: usize, b: usize) -> usize
 }
 
 // At most `many` words from a place on, a line each.
-fn shown(region: &[u64], start: u64, many: usize)
+fn shown(rt: &impl Print, region: &[u64], start: u64, many: usize) -> io::Result<()>
     requires { many ≤ 2048 }
 {
     let mut words = [0u64; 2048];
     let p = piece_at(region, start, &mut words);
-    lines(&words, least(p.many, many));
+    lines(rt, &words, least(p.many, many))
 }
 
 // The first 12 keys of a walk and the last 3.
-pub fn ends(region: &[u64], keys: u64) {
+pub fn ends(rt: &impl Print, region: &[u64], keys: u64) -> io::Result<()> {
     if keys <= 15 {
-        shown(region, 0, 15);
-        return;
+        return shown(rt, region, 0, 15);
     }
-    shown(region, 0, 12);
-    say::text(b"  and ");
-    say::number(keys - 15);
-    say::text(b" more, up to\n");
-    shown(region, keys - 3, 3);
+    shown(rt, region, 0, 12)?;
+    say::text(rt, b"  and ")?;
+    say::number(rt, keys - 15)?;
+    say::text(rt, b" more, up to\n")?;
+    shown(rt, region, keys - 3, 3)
 }

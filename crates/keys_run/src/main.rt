@@ -1,48 +1,55 @@
 // Packs and unpacks preview keys at every bound of their fields, the cases K1 to K3 of document 01 among them, one line a case.
-use libc::STDOUT_FILENO;
+#![tactic(auto)]
+
 use promises::{Card, Fields, Folder, Frame, Kind, Packed, Rollover, Unpacked};
+use std::io;
 
-fn say(text: &[u8]) {
-    io::write_all(STDOUT_FILENO, text);
+fn say(rt: &impl Print, text: &[u8]) -> io::Result<()> {
+    rt.write_all(text)
 }
 
-fn number(x: u64) {
-    io::print_decimal(STDOUT_FILENO, x);
+fn number(rt: &impl Print, x: u64) -> io::Result<()> {
+    rt.print(x)
 }
 
-fn kind_name(kind: u64) {
+fn kind_name(rt: &impl Print, kind: u64) -> io::Result<()> {
     if kind == 0 {
-        say(b"raw");
-        return;
+        return say(rt, b"raw");
     }
     if kind == 1 {
-        say(b"sidecar");
-        return;
+        return say(rt, b"sidecar");
     }
-    say(b"kind ");
-    number(kind);
+    say(rt, b"kind ")?;
+    number(rt, kind)
 }
 
-fn show_fields(f: Fields) {
-    say(b"card ");
-    number(f.card.0);
-    say(b", rollover ");
-    number(f.rollover.0);
-    say(b", folder ");
-    number(f.folder.0);
-    say(b", frame ");
-    number(f.frame.0);
-    say(b", ");
-    kind_name(f.kind.0);
+fn show_fields(rt: &impl Print, f: Fields) -> io::Result<()> {
+    say(rt, b"card ")?;
+    number(rt, f.card.0)?;
+    say(rt, b", rollover ")?;
+    number(rt, f.rollover.0)?;
+    say(rt, b", folder ")?;
+    number(rt, f.folder.0)?;
+    say(rt, b", frame ")?;
+    number(rt, f.frame.0)?;
+    say(rt, b", ")?;
+    kind_name(rt, f.kind.0)
 }
 
-fn bad_field(k: usize) {
-    say(b"refused 10, field ");
-    number(k as u64);
+fn bad_field(rt: &impl Print, k: usize) -> io::Result<()> {
+    say(rt, b"refused 10, field ")?;
+    number(rt, k as u64)
 }
 
 // A line: the fields, and their key or the refusal.
-fn pack(card: u64, rollover: u64, folder: u64, frame: u64, kind: u64) {
+fn pack(
+    rt: &impl Print,
+    card: u64,
+    rollover: u64,
+    folder: u64,
+    frame: u64,
+    kind: u64,
+) -> io::Result<()> {
     let f = Fields {
         card: Card(card),
         rollover: Rollover(rollover),
@@ -50,125 +57,125 @@ fn pack(card: u64, rollover: u64, folder: u64, frame: u64, kind: u64) {
         frame: Frame(frame),
         kind: Kind(kind),
     };
-    say(b"  ");
-    show_fields(f);
-    say(b" -> ");
+    say(rt, b"  ")?;
+    show_fields(rt, f)?;
+    say(rt, b" -> ")?;
     match keys::pack(f) {
         Packed::Key(key) => {
-            say(b"key ");
-            number(key);
+            say(rt, b"key ")?;
+            number(rt, key)?;
         }
         Packed::FieldOutOfRange(k) => {
-            bad_field(k);
+            bad_field(rt, k)?;
         }
     }
-    say(b"\n");
+    say(rt, b"\n")
 }
 
 // A line: the word, and its fields or the refusal.
-fn unpack(word: u64) {
-    say(b"  word ");
-    number(word);
-    say(b" -> ");
+fn unpack(rt: &impl Print, word: u64) -> io::Result<()> {
+    say(rt, b"  word ")?;
+    number(rt, word)?;
+    say(rt, b" -> ")?;
     match keys::unpack(word) {
         Unpacked::Fields(f) => {
-            show_fields(f);
+            show_fields(rt, f)?;
         }
         Unpacked::WordTooLarge => {
-            say(b"refused 6");
+            say(rt, b"refused 6")?;
         }
         Unpacked::FieldOutOfRange(k) => {
-            bad_field(k);
+            bad_field(rt, k)?;
         }
     }
-    say(b"\n");
+    say(rt, b"\n")
 }
 
 // Each field at its bounds and one past them, the others in range.
 
-fn cards() {
-    say(b"K1:\n");
-    pack(5, 0, 100, 1, 0);
-    say(b"card:\n");
-    pack(0, 0, 100, 1, 0);
-    pack(4095, 0, 100, 1, 0);
-    pack(4096, 0, 100, 1, 0);
-    pack(18446744073709551615, 0, 100, 1, 0);
+fn cards(rt: &impl Print) -> io::Result<()> {
+    say(rt, b"K1:\n")?;
+    pack(rt, 5, 0, 100, 1, 0)?;
+    say(rt, b"card:\n")?;
+    pack(rt, 0, 0, 100, 1, 0)?;
+    pack(rt, 4095, 0, 100, 1, 0)?;
+    pack(rt, 4096, 0, 100, 1, 0)?;
+    pack(rt, 18446744073709551615, 0, 100, 1, 0)
 }
 
-fn rollovers() {
-    say(b"rollover:\n");
-    pack(5, 7, 100, 1, 0);
-    pack(5, 8, 100, 1, 0);
+fn rollovers(rt: &impl Print) -> io::Result<()> {
+    say(rt, b"rollover:\n")?;
+    pack(rt, 5, 7, 100, 1, 0)?;
+    pack(rt, 5, 8, 100, 1, 0)
 }
 
-fn folders() {
-    say(b"folder, K2:\n");
-    pack(5, 0, 0, 1, 0);
-    pack(5, 0, 99, 1, 0);
-    pack(5, 0, 999, 1, 0);
-    pack(5, 0, 1000, 1, 0);
+fn folders(rt: &impl Print) -> io::Result<()> {
+    say(rt, b"folder, K2:\n")?;
+    pack(rt, 5, 0, 0, 1, 0)?;
+    pack(rt, 5, 0, 99, 1, 0)?;
+    pack(rt, 5, 0, 999, 1, 0)?;
+    pack(rt, 5, 0, 1000, 1, 0)
 }
 
-fn frames() {
-    say(b"frame, K3:\n");
-    pack(5, 0, 100, 0, 0);
-    pack(5, 0, 100, 9999, 0);
-    pack(5, 0, 100, 10000, 0);
+fn frames(rt: &impl Print) -> io::Result<()> {
+    say(rt, b"frame, K3:\n")?;
+    pack(rt, 5, 0, 100, 0, 0)?;
+    pack(rt, 5, 0, 100, 9999, 0)?;
+    pack(rt, 5, 0, 100, 10000, 0)
 }
 
-fn kinds() {
-    say(b"kind:\n");
-    pack(5, 0, 100, 1, 1);
-    pack(5, 0, 100, 1, 2);
+fn kinds(rt: &impl Print) -> io::Result<()> {
+    say(rt, b"kind:\n")?;
+    pack(rt, 5, 0, 100, 1, 1)?;
+    pack(rt, 5, 0, 100, 1, 2)
 }
 
 // Several bad at once: the first from the top is named.
-fn first_bad() {
-    say(b"several bad at once:\n");
-    pack(4096, 8, 99, 10000, 2);
-    pack(5, 8, 99, 10000, 2);
-    pack(5, 0, 99, 10000, 2);
-    pack(5, 0, 100, 10000, 2);
+fn first_bad(rt: &impl Print) -> io::Result<()> {
+    say(rt, b"several bad at once:\n")?;
+    pack(rt, 4096, 8, 99, 10000, 2)?;
+    pack(rt, 5, 8, 99, 10000, 2)?;
+    pack(rt, 5, 0, 99, 10000, 2)?;
+    pack(rt, 5, 0, 100, 10000, 2)
 }
 
-fn extremes() {
-    say(b"the smallest and the largest key:\n");
-    pack(0, 0, 100, 0, 0);
-    pack(4095, 7, 999, 9999, 1);
+fn extremes(rt: &impl Print) -> io::Result<()> {
+    say(rt, b"the smallest and the largest key:\n")?;
+    pack(rt, 0, 0, 100, 0, 0)?;
+    pack(rt, 4095, 7, 999, 9999, 1)
 }
 
-fn words_taken() {
-    say(b"unpack:\n");
+fn words_taken(rt: &impl Print) -> io::Result<()> {
+    say(rt, b"unpack:\n")?;
     // K1, and the smallest and the largest key
-    unpack(1345454082);
-    unpack(3276800);
-    unpack(1099510828575);
+    unpack(rt, 1345454082)?;
+    unpack(rt, 3276800)?;
+    unpack(rt, 1099510828575)?;
     // frame 9,999
-    unpack(3296798);
+    unpack(rt, 3296798)
 }
 
-fn words_refused() {
+fn words_refused(rt: &impl Print) -> io::Result<()> {
     // frame 10,000, folder 99 and 1000
-    unpack(3296800);
-    unpack(3244034);
-    unpack(32768002);
+    unpack(rt, 3296800)?;
+    unpack(rt, 3244034)?;
+    unpack(rt, 32768002)?;
     // both bad: the folder comes first
-    unpack(0);
+    unpack(rt, 0)?;
     // all 40 bits, one more, and all 64
-    unpack(1099511627775);
-    unpack(1099511627776);
-    unpack(18446744073709551615);
+    unpack(rt, 1099511627775)?;
+    unpack(rt, 1099511627776)?;
+    unpack(rt, 18446744073709551615)
 }
 
-fn main() {
-    cards();
-    rollovers();
-    folders();
-    frames();
-    kinds();
-    first_bad();
-    extremes();
-    words_taken();
-    words_refused();
+fn main(rt: HostRuntime) -> io::Result<()> {
+    cards(&rt)?;
+    rollovers(&rt)?;
+    folders(&rt)?;
+    frames(&rt)?;
+    kinds(&rt)?;
+    first_bad(&rt)?;
+    extremes(&rt)?;
+    words_taken(&rt)?;
+    words_refused(&rt)
 }

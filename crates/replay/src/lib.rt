@@ -1,4 +1,7 @@
-// What the programs that replay the oracle's answers share: the lines of numbers out of a text, runs of words, walks, and the tally of what was as recorded.
+// What the programs that replay the oracle's answers share: the text of a file, the lines of numbers out of it, runs of words, walks, and the tally of what was as recorded.
+#![tactic(auto)]
+
+pub mod input;
 pub mod lines;
 pub mod runs;
 pub mod say;

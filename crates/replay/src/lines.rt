@@ -2,7 +2,7 @@
 ghost use Rattle.std.specs.Prelude.{◌≤◌};
 
 // What stands at a place of the text.
-#[derive(Drop)]
+#[derive(Clone, Copy)]
 pub enum Kind {
     // Numbers, one space between two of them, and a newline behind the last.
     Numbers,
@@ -21,7 +21,7 @@ pub enum Kind {
 }
 
 // What stands there, how many numbers were read, and where the next line starts.
-#[derive(Drop)]
+#[derive(Clone, Copy)]
 pub struct Line {
     pub kind: Kind,
     pub many: usize,
@@ -29,7 +29,7 @@ pub struct Line {
 }
 
 // A number, and the place behind it.
-#[derive(Drop)]
+#[derive(Clone, Copy)]
 enum Number {
     Is(u64, usize),
     TooLarge,
@@ -37,7 +37,7 @@ enum Number {
 }
 
 // A number with what follows it: another one, which starts at a place, or the next line.
-#[derive(Drop)]
+#[derive(Clone, Copy)]
 enum Item {
     More(u64, usize),
     Last(u64, usize),

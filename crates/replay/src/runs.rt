@@ -2,7 +2,7 @@
 ghost use Rattle.std.specs.Prelude.{◌≤◌};
 
 // What a line of commands says: `many` commands of one code, on words each `step` after the one before.
-#[derive(Drop)]
+#[derive(Clone, Copy)]
 pub struct Run {
     // 0 lookup, 1 insert, 2 remove
     pub code: u8,
@@ -14,7 +14,7 @@ pub struct Run {
     pub given: usize,
 }
 
-#[derive(Drop)]
+#[derive(Clone, Copy)]
 pub enum Commands {
     Are(Run),
     Unknown,

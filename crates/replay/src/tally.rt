@@ -1,13 +1,14 @@
 // Where a replay stands, and how it goes on: over comments, at a fault, at the last line, and behind a line that was carried out.
-ghost use Rattle.std.specs.Prelude.{◌≤◌};
+ghost use Rattle.std.specs.Prelude.{◌≤◌, IfOk};
 
 use super::lines::Kind;
 use super::{lines, say};
+use std::io;
 
 // The last line is this operation and how many lines came before it.
 const LAST: u64 = 99;
 
-#[derive(Drop)]
+#[derive(Clone, Copy)]
 pub struct State {
     // the place in the text
     pub at: usize,
@@ -23,14 +24,14 @@ pub struct State {
 }
 
 // A line to carry out, with `many` numbers, or none where `many` is 0.
-#[derive(Drop)]
+#[derive(Clone, Copy)]
 pub struct Took {
     pub state: State,
     pub many: usize,
 }
 
 // What became of a line: the line's first `given` numbers are the operation and what it is given, and it came to `many` answers.
-#[derive(Drop)]
+#[derive(Clone, Copy)]
 pub enum Done {
     Answered { given: usize, many: usize },
     Unknown,
@@ -79,65 +80,65 @@ impl State {
     }
 
     // Says why the replay ends here, before the last line.
-    fn stopped(mut self, why: &[u8]) -> Self {
-        say::line(self.line);
-        say::text(why);
-        say::text(b"\n");
+    fn stopped(mut self, rt: &impl Print, why: &[u8]) -> io::Result<Self> {
+        say::line(rt, self.line)?;
+        say::text(rt, why)?;
+        say::text(rt, b"\n")?;
         self.closed = false;
         self.going = false;
-        self
+        Ok(self)
     }
 
-    fn unknown(mut self, operation: u64) -> Self {
-        say::line(self.line);
-        say::text(b"unknown operation ");
-        say::number(operation);
-        say::text(b"\n");
+    fn unknown(mut self, rt: &impl Print, operation: u64) -> io::Result<Self> {
+        say::line(rt, self.line)?;
+        say::text(rt, b"unknown operation ")?;
+        say::number(rt, operation)?;
+        say::text(rt, b"\n")?;
         self.going = false;
-        self
+        Ok(self)
     }
 
-    fn at_end(mut self) -> Self {
+    fn at_end(mut self, rt: &impl Print) -> io::Result<Self> {
         if self.closed {
             self.going = false;
-            return self;
+            return Ok(self);
         }
-        self.stopped(b"the file was cut: it ends with no line `99 n`")
+        self.stopped(rt, b"the file was cut: it ends with no line `99 n`")
     }
 
-    fn at_last(mut self, many: usize, n: u64) -> Self {
+    fn at_last(mut self, rt: &impl Print, many: usize, n: u64) -> io::Result<Self> {
         if many != 2 {
-            return self.stopped(b"the line `99 n` has not two numbers");
+            return self.stopped(rt, b"the line `99 n` has not two numbers");
         }
         if n != self.lines {
-            say::line(self.line);
-            say::text(b"the last line says ");
-            say::number(n);
-            say::text(b" lines, and ");
-            say::number(self.lines);
-            say::text(b" came before it\n");
+            say::line(rt, self.line)?;
+            say::text(rt, b"the last line says ")?;
+            say::number(rt, n)?;
+            say::text(rt, b" lines, and ")?;
+            say::number(rt, self.lines)?;
+            say::text(rt, b" came before it\n")?;
             self.going = false;
-            return self;
+            return Ok(self);
         }
         self.closed = true;
-        self
+        Ok(self)
     }
 
     // Says the first answers that are not as recorded, and counts them all.
-    fn compared(mut self, expected: &[u64], came: &[u64]) -> Self {
+    fn compared(mut self, rt: &impl Print, expected: &[u64], came: &[u64]) -> io::Result<Self> {
         if same(expected, came) {
-            return self;
+            return Ok(self);
         }
         if self.wrong == 0 {
-            say::line(self.line);
-            say::text(b"expected");
-            say::numbers(expected);
-            say::text(b", came");
-            say::numbers(came);
-            say::text(b"\n");
+            say::line(rt, self.line)?;
+            say::text(rt, b"expected")?;
+            say::numbers(rt, expected)?;
+            say::text(rt, b", came")?;
+            say::numbers(rt, came)?;
+            say::text(rt, b"\n")?;
         }
         self.wrong = up(self.wrong);
-        self
+        Ok(self)
     }
 
     // The same, but for so many lines that were passed over.
@@ -149,26 +150,23 @@ impl State {
     }
 
     // What the whole comes to.
-    pub fn verdict(self) {
+    pub fn verdict(self, rt: &impl Print) -> io::Result<()> {
         if self.wrong > 0 {
-            say::text(b"NOT AS RECORDED: lines ");
-            say::number(self.lines);
-            say::text(b", wrong answers ");
-            say::number(self.wrong);
-            say::text(b"\n");
-            return;
+            say::text(rt, b"NOT AS RECORDED: lines ")?;
+            say::number(rt, self.lines)?;
+            say::text(rt, b", wrong answers ")?;
+            say::number(rt, self.wrong)?;
+            return say::text(rt, b"\n");
         }
         if self.going {
-            say::text(b"NOT ALL WAS REPLAYED\n");
-            return;
+            return say::text(rt, b"NOT ALL WAS REPLAYED\n");
         }
         if !self.closed {
-            say::text(b"NOT ALL WAS REPLAYED\n");
-            return;
+            return say::text(rt, b"NOT ALL WAS REPLAYED\n");
         }
-        say::text(b"all ");
-        say::number(self.lines);
-        say::text(b" lines as recorded\n");
+        say::text(rt, b"all ")?;
+        say::number(rt, self.lines)?;
+        say::text(rt, b" lines as recorded\n")
     }
 }
 
@@ -179,8 +177,13 @@ fn nothing(s: State) -> Took
 }
 
 // Takes the next line.
-pub fn take(text: &[u8], before: State, numbers: &mut [u64; 4096]) -> Took
-    ensures { result.many ≤ 4096 }
+pub fn take(
+    rt: &impl Print,
+    text: &[u8],
+    before: State,
+    numbers: &mut [u64; 4096],
+) -> io::Result<Took>
+    ensures { IfOk result (λ took. took.many ≤ 4096) }
 {
     let mut s = before;
     let at = s.at;
@@ -189,53 +192,55 @@ pub fn take(text: &[u8], before: State, numbers: &mut [u64; 4096]) -> Took
     let kind = l.kind;
     let many = l.many;
     let s = s.to(l.next);
-    match kind {
+    let after = match kind {
         Kind::Numbers => {
             if s.closed {
-                return nothing(s.stopped(b"there is more behind the last line"));
-            }
-            if numbers[0] == LAST {
-                return nothing(s.at_last(many, numbers[1]));
-            }
-            Took {
-                state: s.counted(),
-                many,
+                s.stopped(rt, b"there is more behind the last line")?
+            } else if numbers[0] == LAST {
+                s.at_last(rt, many, numbers[1])?
+            } else {
+                return Ok(Took {
+                    state: s.counted(),
+                    many,
+                });
             }
         }
-        Kind::Comment => nothing(s),
-        Kind::End => nothing(s.at_end()),
-        Kind::Cut => nothing(s.stopped(b"the file was cut: it ends in this line")),
-        Kind::TooLarge => nothing(s.stopped(b"a number does not fit 64 bits")),
-        Kind::TooLong => nothing(s.stopped(b"more than 4,096 numbers")),
-        Kind::Strange => nothing(s.stopped(b"a byte that has no place in a line of numbers")),
-    }
+        Kind::Comment => s,
+        Kind::End => s.at_end(rt)?,
+        Kind::Cut => s.stopped(rt, b"the file was cut: it ends in this line")?,
+        Kind::TooLarge => s.stopped(rt, b"a number does not fit 64 bits")?,
+        Kind::TooLong => s.stopped(rt, b"more than 4,096 numbers")?,
+        Kind::Strange => s.stopped(rt, b"a byte that has no place in a line of numbers")?,
+    };
+    Ok(nothing(after))
 }
 
 // Compares what came with what the line says. Where it is the same, the row's count goes up.
 pub fn judge(
+    rt: &impl Print,
     s: State,
     line: &[u64],
     row: u64,
     done: Done,
     came: &[u64; 4096],
     counts: &mut [u64; 100],
-) -> State {
+) -> io::Result<State> {
     match done {
-        Done::Unknown => s.unknown(row),
-        Done::BadNumbers => s.stopped(b"too few numbers, or one outside its range"),
+        Done::Unknown => s.unknown(rt, row),
+        Done::BadNumbers => s.stopped(rt, b"too few numbers, or one outside its range"),
         Done::Answered { given, many } => {
             if line.len() < given {
-                return s.stopped(b"too few numbers");
+                return s.stopped(rt, b"too few numbers");
             }
             if 4096 < many {
-                return s.stopped(b"more than 4,096 answers");
+                return s.stopped(rt, b"more than 4,096 answers");
             }
             let answers = &came[..];
-            let after = s.compared(&line[given..], &answers[0..many]);
+            let after = s.compared(rt, &line[given..], &answers[0..many])?;
             if after.wrong == s.wrong {
                 count(row, counts);
             }
-            after
+            Ok(after)
         }
     }
 }

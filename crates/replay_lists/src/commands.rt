@@ -3,6 +3,7 @@ use promises::Listed;
 use replay::runs::{Commands, Run};
 use replay::tally::{Done, State};
 use replay::{runs, say, tally};
+use std::io;
 
 // What came where the list was refused: no command answers this.
 const REFUSED: u64 = 1000;
@@ -27,62 +28,83 @@ fn first_other(answers: &[u8], recorded: u64) -> u64 {
     recorded
 }
 
-fn refused(s: State, why: &[u8]) -> u64 {
+fn refused(rt: &impl Print, s: State, why: &[u8]) -> io::Result<u64> {
     if s.wrong == 0 {
-        say::line(s.line);
-        say::text(b"the list was refused: ");
-        say::text(why);
-        say::text(b"\n");
+        say::line(rt, s.line)?;
+        say::text(rt, b"the list was refused: ")?;
+        say::text(rt, why)?;
+        say::text(rt, b"\n")?;
     }
-    REFUSED
+    Ok(REFUSED)
 }
 
-fn said(s: State, listed: Listed, answers: &[u8], recorded: u64) -> u64 {
+fn said(
+    rt: &impl Print,
+    s: State,
+    listed: Listed,
+    answers: &[u8],
+    recorded: u64,
+) -> io::Result<u64> {
     match listed {
-        Listed::Done => first_other(answers, recorded),
-        Listed::Malformed => refused(s, b"the region is not well formed"),
-        Listed::BadLengths => refused(s, b"lengths"),
-        Listed::UnknownCode(_) => refused(s, b"an unknown code"),
-        Listed::WordTooLarge(_) => refused(s, b"a word too large"),
-        Listed::NoRoom(_) => refused(s, b"no room"),
+        Listed::Done => Ok(first_other(answers, recorded)),
+        Listed::Malformed => refused(rt, s, b"the region is not well formed"),
+        Listed::BadLengths => refused(rt, s, b"lengths"),
+        Listed::UnknownCode(_) => refused(rt, s, b"an unknown code"),
+        Listed::WordTooLarge(_) => refused(rt, s, b"a word too large"),
+        Listed::NoRoom(_) => refused(rt, s, b"no room"),
     }
 }
 
 // Runs the list, and says what all its commands answered, or the first answer that is not as recorded.
-fn answered(s: State, run: Run, recorded: u64, region: &mut [u64]) -> u64 {
+fn answered(
+    rt: &impl Print,
+    s: State,
+    run: Run,
+    recorded: u64,
+    region: &mut [u64],
+) -> io::Result<u64> {
     let codes = [run.code; 4096];
     let mut words = [0u64; 4096];
     let mut answers = [UNTOUCHED; 4096];
     let many = run.many;
     if many > 4096 {
-        return REFUSED;
+        return Ok(REFUSED);
     }
     runs::fill(&mut words, run.start, run.step);
     let listed = wordset_list::list(region, &codes[0..many], &words[0..many], &mut answers);
-    said(s, listed, &answers[0..many], recorded)
+    said(rt, s, listed, &answers[0..many], recorded)
 }
 
 pub fn line(
+    rt: &impl Print,
     s: State,
     line: &[u64],
     region: &mut [u64],
     came: &mut [u64; 4096],
     counts: &mut [u64; 100],
-) -> State {
+) -> io::Result<State> {
     if line.len() == 0 {
-        return s;
+        return Ok(s);
     }
     let op = line[0];
     match runs::commands_of(line, 1) {
         Commands::Are(run) => {
             let given = run.given;
             if given >= line.len() {
-                return tally::judge(s, line, op, Done::BadNumbers, came, counts);
+                return tally::judge(rt, s, line, op, Done::BadNumbers, came, counts);
             }
-            came[0] = answered(s, run, line[given], region);
-            tally::judge(s, line, op, Done::Answered { given, many: 1 }, came, counts)
+            came[0] = answered(rt, s, run, line[given], region)?;
+            tally::judge(
+                rt,
+                s,
+                line,
+                op,
+                Done::Answered { given, many: 1 },
+                came,
+                counts,
+            )
         }
-        Commands::Unknown => tally::judge(s, line, op, Done::Unknown, came, counts),
-        Commands::Bad => tally::judge(s, line, op, Done::BadNumbers, came, counts),
+        Commands::Unknown => tally::judge(rt, s, line, op, Done::Unknown, came, counts),
+        Commands::Bad => tally::judge(rt, s, line, op, Done::BadNumbers, came, counts),
     }
 }

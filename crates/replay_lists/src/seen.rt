@@ -5,6 +5,7 @@ use inspect::well_formed;
 use lens::read;
 use replay::tally;
 use replay::tally::{Done, State};
+use std::io;
 
 // `5 n`, `6 n`, `7 n`: members, nodes in use, containers in use.
 fn count(op: u64, region: &[u64]) -> u64
@@ -18,18 +19,20 @@ fn count(op: u64, region: &[u64]) -> u64
 }
 
 pub fn number(
+    rt: &impl Print,
     s: State,
     line: &[u64],
     region: &[u64],
     came: &mut [u64; 4096],
     counts: &mut [u64; 100],
-) -> State {
+) -> io::Result<State> {
     if line.len() != 2 {
-        return tally::judge(s, line, 5, Done::BadNumbers, came, counts);
+        return tally::judge(rt, s, line, 5, Done::BadNumbers, came, counts);
     }
     let op = line[0];
     if !well_formed(region) {
         return tally::judge(
+            rt,
             s,
             line,
             op,
@@ -40,6 +43,7 @@ pub fn number(
     }
     came[0] = count(op, region);
     tally::judge(
+        rt,
         s,
         line,
         op,
@@ -72,18 +76,20 @@ fn at_rank(r: u64, region: &[u64], came: &mut [u64; 4096]) -> usize
 
 // `8 r p c k n`
 pub fn rank(
+    rt: &impl Print,
     s: State,
     line: &[u64],
     region: &[u64],
     came: &mut [u64; 4096],
     counts: &mut [u64; 100],
-) -> State {
+) -> io::Result<State> {
     if line.len() != 6 {
-        return tally::judge(s, line, 8, Done::BadNumbers, came, counts);
+        return tally::judge(rt, s, line, 8, Done::BadNumbers, came, counts);
     }
     let r = line[1];
     if !well_formed(region) {
         return tally::judge(
+            rt,
             s,
             line,
             8,
@@ -93,5 +99,13 @@ pub fn rank(
         );
     }
     let many = at_rank(r, region, came);
-    tally::judge(s, line, 8, Done::Answered { given: 2, many }, came, counts)
+    tally::judge(
+        rt,
+        s,
+        line,
+        8,
+        Done::Answered { given: 2, many },
+        came,
+        counts,
+    )
 }

@@ -1,13 +1,15 @@
 // Replays the oracle's answers on suffix bytes and the parts of a word (answers/sliced_int.txt, on standard input) over the proved SlicedInt,
 // and compares every number. The parts of a word are held against the definitions of document 01.
+#![tactic(auto)]
+
 ghost use Rattle.std.specs.Prelude.{◌<◌, ◌≤◌};
 
 mod parts;
 
-use libc::STDIN_FILENO;
 use replay::tally::{Done, State};
-use replay::{say, tally};
+use replay::{input, say, tally};
 use sliced_int::{Order, SlicedInt};
+use std::io;
 
 fn put(answer: u64, came: &mut [u64; 4096]) -> usize {
     came[0] = answer;
@@ -143,47 +145,56 @@ fn carry_out(line: &[u64], came: &mut [u64; 4096]) -> Done {
 }
 
 // Takes a line and carries it out.
-fn step(text: &[u8], before: State, numbers: &mut [u64; 4096], counts: &mut [u64; 100]) -> State {
-    let took = tally::take(text, before, numbers);
+fn step(
+    rt: &impl Print,
+    text: &[u8],
+    before: State,
+    numbers: &mut [u64; 4096],
+    counts: &mut [u64; 100],
+) -> io::Result<State> {
+    let took = tally::take(rt, text, before, numbers)?;
     let many = took.many;
     let s = took.state;
     if many == 0 {
-        return s;
+        return Ok(s);
     }
     let all = &numbers[..];
     let line = &all[0..many];
     let row = line[0];
     let mut came = [0u64; 4096];
     let done = carry_out(line, &mut came);
-    tally::judge(s, line, row, done, &came, counts)
+    tally::judge(rt, s, line, row, done, &came, counts)
 }
 
 // Line after line. Each has a byte at least, so the turns do not run out.
-fn all_lines(text: &[u8], counts: &mut [u64; 100]) -> State {
+fn all_lines(rt: &impl Print, text: &[u8], counts: &mut [u64; 100]) -> io::Result<State> {
     let mut numbers = [0u64; 4096];
     let mut s = State::new();
     let mut turns: usize = 0;
     while turns <= text.len() {
         if !s.going {
-            return s;
+            return Ok(s);
         }
-        s = step(text, s, &mut numbers, counts);
+        s = step(rt, text, s, &mut numbers, counts)?;
         turns += 1;
     }
-    s
+    Ok(s)
 }
 
-fn main() {
+fn main(rt: HostRuntime) -> io::Result<()> {
     let mut text = [0u8; 262144];
-    let n = io::read_full(STDIN_FILENO, &mut text);
-    say::text(b"answers/sliced_int.txt over SlicedInt and document 01's parts of a word:\n");
+    let n = input::fill(&mut rt.reader(), &mut text)?;
+    say::text(
+        &rt,
+        b"answers/sliced_int.txt over SlicedInt and document 01's parts of a word:\n",
+    )?;
     let mut counts = [0u64; 100];
-    let s = all_lines(&text[..n], &mut counts);
-    say::row(b"  bytes of a suffix", counts[1]);
-    say::row(b"  bytes read back", counts[2]);
-    say::row(b"  order", counts[3]);
-    say::row(b"  prefix and suffix of a word", counts[4]);
-    say::row(b"  word of a prefix and a suffix", counts[5]);
-    say::text(b"  ");
-    s.verdict();
+    let s = all_lines(&rt, &text[..n], &mut counts)?;
+    say::row(&rt, b"  bytes of a suffix", counts[1])?;
+    say::row(&rt, b"  bytes read back", counts[2])?;
+    say::row(&rt, b"  order", counts[3])?;
+    say::row(&rt, b"  prefix and suffix of a word", counts[4])?;
+    say::row(&rt, b"  word of a prefix and a suffix", counts[5])?;
+    say::text(&rt, b"  ")?;
+    s.verdict(&rt)
 }

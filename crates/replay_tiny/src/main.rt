@@ -1,12 +1,14 @@
 // Replays the oracle's answers on the map of a node (answers/tiny.txt, on standard input) over the proved TinyBitvector, and compares every number.
 // Where an operation has a second form, which works on the map's words in place or goes from each byte to the next, that is replayed too.
+#![tactic(auto)]
+
 mod walk;
 
 use bitvector::tiny;
 use bitvector::tiny::TinyBitvector;
-use libc::STDIN_FILENO;
 use replay::tally::{Done, State};
-use replay::{say, tally};
+use replay::{input, say, tally};
+use std::io;
 
 fn one_if(b: bool) -> u64 {
     if b { 1 } else { 0 }
@@ -122,66 +124,78 @@ fn carry_out(line: &[u64], row: u64, came: &mut [u64; 4096]) -> Done {
 }
 
 // Carries a line out in one form, and compares.
-fn replayed(s: State, line: &[u64], row: u64, counts: &mut [u64; 100]) -> State {
+fn replayed(
+    rt: &impl Print,
+    s: State,
+    line: &[u64],
+    row: u64,
+    counts: &mut [u64; 100],
+) -> io::Result<State> {
     let mut came = [0u64; 4096];
     let done = carry_out(line, row, &mut came);
-    tally::judge(s, line, row, done, &came, counts)
+    tally::judge(rt, s, line, row, done, &came, counts)
 }
 
 // Takes a line and carries it out in its forms.
-fn step(text: &[u8], before: State, numbers: &mut [u64; 4096], counts: &mut [u64; 100]) -> State {
-    let took = tally::take(text, before, numbers);
+fn step(
+    rt: &impl Print,
+    text: &[u8],
+    before: State,
+    numbers: &mut [u64; 4096],
+    counts: &mut [u64; 100],
+) -> io::Result<State> {
+    let took = tally::take(rt, text, before, numbers)?;
     let many = took.many;
     let s = took.state;
     if many == 0 {
-        return s;
+        return Ok(s);
     }
     let all = &numbers[..];
     let line = &all[0..many];
     let op = line[0];
-    let s = replayed(s, line, op, counts);
+    let s = replayed(rt, s, line, op, counts)?;
     if !s.going {
-        return s;
+        return Ok(s);
     }
     let row = second(op);
     if row == 0 {
-        return s;
+        return Ok(s);
     }
-    replayed(s, line, row, counts)
+    replayed(rt, s, line, row, counts)
 }
 
 // Line after line. Each has a byte at least, so the turns do not run out.
-fn all_lines(text: &[u8], counts: &mut [u64; 100]) -> State {
+fn all_lines(rt: &impl Print, text: &[u8], counts: &mut [u64; 100]) -> io::Result<State> {
     let mut numbers = [0u64; 4096];
     let mut s = State::new();
     let mut turns: usize = 0;
     while turns <= text.len() {
         if !s.going {
-            return s;
+            return Ok(s);
         }
-        s = step(text, s, &mut numbers, counts);
+        s = step(rt, text, s, &mut numbers, counts)?;
         turns += 1;
     }
-    s
+    Ok(s)
 }
 
-fn main() {
+fn main(rt: HostRuntime) -> io::Result<()> {
     let mut text = [0u8; 262144];
-    let n = io::read_full(STDIN_FILENO, &mut text);
-    say::text(b"answers/tiny.txt over TinyBitvector:\n");
+    let n = input::fill(&mut rt.reader(), &mut text)?;
+    say::text(&rt, b"answers/tiny.txt over TinyBitvector:\n")?;
     let mut counts = [0u64; 100];
-    let s = all_lines(&text[..n], &mut counts);
-    say::row(b"  contains", counts[1]);
-    say::row(b"  insert", counts[2]);
-    say::row(b"  remove", counts[3]);
-    say::row(b"  is empty", counts[4]);
-    say::row(b"  count", counts[5]);
-    say::row(b"  rank", counts[6]);
-    say::row(b"  walk", counts[7]);
-    say::row(b"  contains in place", counts[11]);
-    say::row(b"  insert in place", counts[12]);
-    say::row(b"  remove in place", counts[13]);
-    say::row(b"  walk by next", counts[17]);
-    say::text(b"  ");
-    s.verdict();
+    let s = all_lines(&rt, &text[..n], &mut counts)?;
+    say::row(&rt, b"  contains", counts[1])?;
+    say::row(&rt, b"  insert", counts[2])?;
+    say::row(&rt, b"  remove", counts[3])?;
+    say::row(&rt, b"  is empty", counts[4])?;
+    say::row(&rt, b"  count", counts[5])?;
+    say::row(&rt, b"  rank", counts[6])?;
+    say::row(&rt, b"  walk", counts[7])?;
+    say::row(&rt, b"  contains in place", counts[11])?;
+    say::row(&rt, b"  insert in place", counts[12])?;
+    say::row(&rt, b"  remove in place", counts[13])?;
+    say::row(&rt, b"  walk by next", counts[17])?;
+    say::text(&rt, b"  ")?;
+    s.verdict(&rt)
 }

@@ -5,6 +5,7 @@ use crate::tree::{Answer, Tree};
 use replay::runs::{Commands, Run};
 use replay::tally::{Done, State};
 use replay::{runs, tally};
+use std::io;
 
 // What came where a command found no room, and where the arena was not well formed or the suffix too large.
 const NO_ROOM: u64 = 1001;
@@ -12,7 +13,7 @@ const NO_ROOM: u64 = 1001;
 const REFUSED: u64 = 1000;
 
 // What the commands of a line answered, or the first answer that is not as recorded, and the trie that is left.
-#[derive(Drop)]
+#[derive(Clone, Copy)]
 struct Ran {
     answer: u64,
     tree: Tree,
@@ -68,34 +69,41 @@ fn run(arena: &mut [u64], t: Tree, run: Run, recorded: u64) -> Ran {
 }
 
 // The last number of the line is the published copy's answer: it is not compared.
-pub fn line(s: State, t: Tree, line: &[u64], arena: &mut [u64], counts: &mut [u64; 100]) -> Place {
+pub fn line(
+    rt: &impl Print,
+    s: State,
+    t: Tree,
+    line: &[u64],
+    arena: &mut [u64],
+    counts: &mut [u64; 100],
+) -> io::Result<Place> {
     let mut came = [0u64; 4096];
     if line.len() == 0 {
-        return Place { state: s, tree: t };
+        return Ok(Place { state: s, tree: t });
     }
     let op = line[0];
     match runs::commands_of(line, 2) {
         Commands::Are(r) => {
             let given = r.given;
             if given >= line.len() - 1 {
-                let state = tally::judge(s, line, op, Done::BadNumbers, &came, counts);
-                return Place { state, tree: t };
+                let state = tally::judge(rt, s, line, op, Done::BadNumbers, &came, counts)?;
+                return Ok(Place { state, tree: t });
             }
             let ran = run(arena, t, r, line[given]);
             came[0] = ran.answer;
             let tree = ran.tree;
             let corrected = &line[0..given + 1];
             let done = Done::Answered { given, many: 1 };
-            let state = tally::judge(s, corrected, op, done, &came, counts);
-            Place { state, tree }
+            let state = tally::judge(rt, s, corrected, op, done, &came, counts)?;
+            Ok(Place { state, tree })
         }
         Commands::Unknown => {
-            let state = tally::judge(s, line, op, Done::Unknown, &came, counts);
-            Place { state, tree: t }
+            let state = tally::judge(rt, s, line, op, Done::Unknown, &came, counts)?;
+            Ok(Place { state, tree: t })
         }
         Commands::Bad => {
-            let state = tally::judge(s, line, op, Done::BadNumbers, &came, counts);
-            Place { state, tree: t }
+            let state = tally::judge(rt, s, line, op, Done::BadNumbers, &came, counts)?;
+            Ok(Place { state, tree: t })
         }
     }
 }

@@ -11,7 +11,7 @@ const SLOTS: usize = 768;
 
 const WORDS: usize = 203520;
 
-#[derive(Drop)]
+#[derive(Clone, Copy)]
 pub struct Tree {
     // levels; 0 before the first case
     pub b: usize,
@@ -23,7 +23,7 @@ pub struct Tree {
 }
 
 // What a command came to.
-#[derive(Drop)]
+#[derive(Clone, Copy)]
 pub enum Answer {
     No,
     Yes,
@@ -33,7 +33,7 @@ pub enum Answer {
     Refused,
 }
 
-#[derive(Drop)]
+#[derive(Clone, Copy)]
 pub struct Did {
     pub answer: Answer,
     pub tree: Tree,
