@@ -10,7 +10,7 @@ fn main() {
     let archive = folder.join("libbrothowl.a");
     if !archive.is_file() {
         panic!(
-            "{} is not there: run `rt staticlib brothowl` in the top folder first (rust/test does)",
+            "{} is not there: run `tools/staticlib brothowl` in the top folder first (rust/test does)",
             archive.display()
         );
     }

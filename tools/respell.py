@@ -4,7 +4,7 @@
     python3 tools/respell.py [FOLDER]
 
 It is run at the top of a checkout that port.py has been over. A name is respelled if an .antt file of specs/ or proofs/
-declares it, or binds it, with a lower first letter and a capital behind it: each part between dashes by itself, so that
+declares it, or binds it, or a source's `ghost use .. as` gives it, with a lower first letter and a capital behind it: each part between dashes by itself, so that
 a fact keeps its capital (`mem-Ascending`). Names of Rust source, strings and comments' other words stay. Names that fall
 together are refused."""
 import pathlib
@@ -52,6 +52,9 @@ def code(line):
 
 for path, names in LOCAL.items():
     f = root / path
+    # not where it was run before
+    if not any(CAMEL.match(t) for t in TOKEN.findall(f.read_text())):
+        continue
     f.write_text(TOKEN.sub(lambda m: names.get(m.group(0), m.group(0)), f.read_text()))
 
 declared = set()
@@ -62,6 +65,12 @@ for f in antt_files():
             seen.add(t)
             if any(CAMEL.match(p) for p in t.split('-')):
                 declared.add(t)
+
+# names that a source gives to what it imports into its clauses
+for f in (root / 'crates').glob('*/src/**/*.rt'):
+    for line in f.read_text().splitlines():
+        if line.lstrip().startswith('ghost use'):
+            declared.update(n for n in re.findall(r'\bas ([A-Za-z_0-9]+)', line) if CAMEL.match(n))
 
 table = {n: respelled(n) for n in declared if respelled(n) != n}
 bad = [(n, m) for n, m in table.items() if m in seen and m not in APART]

@@ -18,7 +18,7 @@ fn main() {
     for name in ["leaves", "leaves_sets"] {
         let archive = folder.join(format!("lib{name}.a"));
         if !archive.is_file() {
-            panic!("{} is not there: run `rt staticlib {name}` in the top folder first", archive.display());
+            panic!("{} is not there: run `tools/staticlib {name}` in the top folder first", archive.display());
         }
         println!("cargo:rerun-if-changed={}", archive.display());
         println!("cargo:rustc-link-lib=static={name}");
