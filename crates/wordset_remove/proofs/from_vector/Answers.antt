@@ -17,7 +17,7 @@ close-requires c =
       well_formed = c.requires.well_formed;
       c_bound = c.requires.c_bound;
       c_value = c.requires.c_value;
-      c_value_2 = sym c.size-len.ensures ∙ c.if-len-eq1.true;
+      c_value_2 = sym c.size-len.ensures ∙ (omega arith);
     }
 
 pub take-requires : goal.take-requires
@@ -26,15 +26,15 @@ take-requires c =
       well_formed = c.requires.well_formed;
       c_bound = c.requires.c_bound;
       c_value = c.requires.c_value;
-      bound = several c.args.region.now c.requires.well_formed c.args.c c.requires.c_bound c.requires.c_value _ c.size-len.result refl c.size-len.ensures c.args.s c.find.result c.find.ensures c.in-At.is c.if-len-eq1.false;
+      bound = several c.args.region.now c.requires.well_formed c.args.c c.requires.c_bound c.requires.c_value _ c.size-len.result refl c.size-len.ensures c.args.s c.find.result c.find.ensures c.in-At.is (omega arith);
       i_bound = place_inside c.args.region.now c.requires.well_formed c.args.c c.requires.c_bound c.requires.c_value _ c.size-len.result refl c.size-len.ensures c.args.s c.find.result c.find.ensures c.in-At.is;
     }
 
 pub returns-then-len-eq1 : goal.returns-then-len-eq1
-returns-then-len-eq1 c = closed-left c.args.region.now c.requires.well_formed c.args.c c.requires.c_bound c.requires.c_value _ c.size-len.result refl c.size-len.ensures c.args.s c.find.result c.find.ensures c.in-At.is c.if-len-eq1.true c.close.ensures
+returns-then-len-eq1 c = closed-left c.args.region.now c.requires.well_formed c.args.c c.requires.c_bound c.requires.c_value _ c.size-len.result refl c.size-len.ensures c.args.s c.find.result c.find.ensures c.in-At.is (omega arith) c.close.ensures
 
 pub returns-else-len-eq1 : goal.returns-else-len-eq1
-returns-else-len-eq1 c = took-left c.args.region.now c.requires.well_formed c.args.c c.requires.c_bound c.requires.c_value _ c.size-len.result refl c.size-len.ensures c.args.s c.find.result c.find.ensures c.in-At.is c.if-len-eq1.false c.take.ensures
+returns-else-len-eq1 c = took-left c.args.region.now c.requires.well_formed c.args.c c.requires.c_bound c.requires.c_value _ c.size-len.result refl c.size-len.ensures c.args.s c.find.result c.find.ensures c.in-At.is (omega arith) c.take.ensures
 
 pub returns-in-Nothing : goal.returns-in-Nothing
 returns-in-Nothing c = (nothing-there c.args.region.now c.requires.well_formed c.args.c c.requires.c_bound c.requires.c_value _ c.size-len.result refl c.size-len.ensures c.args.s c.find.result c.find.ensures c.in-Nothing.is, refl)
