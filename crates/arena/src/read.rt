@@ -81,12 +81,10 @@ pub fn is_empty(arena: &[u64], slots: usize, n: usize) -> bool
     ensures yes { result ≡ true → (y : ℕ) → y < 256 → (nodes_in slots arena.now).bit n y ≡ 0 }
     ensures no { result ≡ false → NonEmpty (nodes_in slots arena.now) n }
 {
-    let mut i: usize = 0;
-    while i < 4 {
+    for i in 0..4 {
         if word(arena, slots, n, i) != 0 {
             return false;
         }
-        i += 1;
     }
     true
 }

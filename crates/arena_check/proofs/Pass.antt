@@ -1,12 +1,13 @@
 -- The pass over the nodes: what holds once some of them are tallied or passed, at the start, by one more and at the end. Assumes nothing.
 use Prim.Native.Nat.{ℕ, zero, suc, ◌+◌, ◌-◌, ◌*◌, ◌≤◌, ◌<◌, min}
 use mathlib.Core.Path.{◌≡◌, refl, sym, ap, ◌∙◌, subst}
-use mathlib.Core.Bool.{cond}
+use mathlib.Core.Bool.{Bool, true, false, cond, not}
 use mathlib.Core.List.{List}
 use native.Mathlib.Numerals.{add-one}
 use native.Mathlib.Omega.{arith}
 use lib.Dec.{eqb}
 use lib.ListN.{length}
+use mir.Val.{bool_byte}
 use borrow.Author.Count.{below_more}
 use borrow.Author.Tests.{eqb-true, eqb-false}
 use Rattle.lists.specs.Lists.{one}
@@ -39,6 +40,16 @@ root-or-below : (x : ℕ) → one (eqb x 1) + min 1 (x - 1) ≡ min 1 x
 root-or-below x = by-test (eqb x 1)
     (λ e. let z : x ≡ 1 = eqb-true x 1 e in rw e (omega arith))
     (λ e. let z : x ≡ 1 → ⊥ = eqb-false x 1 e in rw e (omega arith))
+
+-- what the code adds: a test, as 0 or 1
+pub one-test : (t : Bool) → bool_byte t ≡ one t
+one-test true = refl
+one-test false = refl
+
+pub used-test : (x : ℕ) → bool_byte (not (eqb x 0)) ≡ min 1 x
+used-test x = by-test (eqb x 0)
+    (λ e. let z : x ≡ 0 = eqb-true x 0 e in rw e (omega arith))
+    (λ e. let z : x ≡ 0 → ⊥ = eqb-false x 0 e in rw e (omega arith))
 
 -- how many are in use, counted on
 module _ (v : Nodes) where

@@ -3,8 +3,7 @@
 // such nodes as places and bits, each place and each bit has its node, and neither the stack nor the children are walked.
 #![tactic(auto)]
 
-ghost use Rattle.std.specs.Prelude.{◌≡◌, true, false, cond, ℕ, ◌+◌, ◌-◌, ◌*◌, ◌<◌, ◌≤◌, min, eqb, length};
-ghost use Rattle.lists.specs.Lists.{one};
+ghost use Rattle.std.specs.Prelude.{◌≡◌, true, false, cond, ℕ, ◌+◌, ◌-◌, ◌*◌, ◌<◌, ◌≤◌, eqb, length, MatchOption};
 ghost use Rattle.region.specs.Geometry.{node_words};
 ghost use Rattle.region.specs.WellFormed.{StackedNode, NonEmpty, nodes_used};
 ghost use Rattle.arena.specs.Arena.{nodes_in, spare_in};
@@ -17,18 +16,16 @@ use bitvector::tiny::TinyBitvector;
 // How many nodes are taken at a time: three short loops over them, so that many loads are under way at once.
 const BLOCK: usize = 32;
 
-// What the check of an arena says. Sound holds how many roots there are, and how many bits the maps of the last level have.
-#[derive(Clone, Copy)]
-pub enum Verdict {
-    Malformed,
-    Sound(usize, usize),
+// What an arena that is well formed holds: how many roots, and how many bits in the maps of the last level.
+#[derive(Clone, Copy, Debug, PartialEq, Eq)]
+pub struct Sound {
+    pub roots: usize,
+    pub last: usize,
 }
 
-// Whether the nodes so far keep what they must by their own words, how many roots there are among them, and how many bits
-// want a child or are at the last level.
+// How many roots there are among the nodes so far, and how many bits want a child or are at the last level.
 #[derive(Clone, Copy)]
 struct Tally {
-    ok: bool,
     roots: usize,
     bits: usize,
     last: usize,
@@ -42,14 +39,7 @@ fn stacked(arena: &[u64], slots: usize, free: usize, n: usize) -> bool
     ensures no { result ≡ false → StackedNode free (spare_in arena.now) (nodes_in slots arena.now) n → ⊥ }
 {
     let place = read::parent(arena, slots, n);
-    if place >= free as u64 {
-        return false;
-    }
-    let there = read::spare(arena, slots, place as usize);
-    if there != n as u64 {
-        return false;
-    }
-    true
+    place < free as u64 && read::spare(arena, slots, place as usize) == n as u64
 }
 
 // Whether the map of node n has a bit.
@@ -83,15 +73,7 @@ fn back_in_range(arena: &[u64], slots: usize, n: usize) -> bool
     ensures yes { result ≡ true → BackInRange slots (nodes_in slots arena.now) n }
     ensures no { result ≡ false → BackInRange slots (nodes_in slots arena.now) n → ⊥ }
 {
-    let parent = read::parent(arena, slots, n);
-    if parent >= slots as u64 {
-        return false;
-    }
-    let byte = read::byte(arena, slots, n);
-    if byte >= 256 {
-        return false;
-    }
-    true
+    read::parent(arena, slots, n) < slots as u64 && read::byte(arena, slots, n) < 256
 }
 
 // Whether node n, whose word 4 is level1, keeps what it must by its own words.
@@ -105,17 +87,10 @@ fn own_ok(arena: &[u64], slots: usize, free: usize, b: usize, n: usize, level1: 
     if level1 == 0 {
         return stacked(arena, slots, free, n);
     }
-    if level1 >= b as u64 + 1 {
-        return false;
-    }
-    if !non_empty(arena, slots, n) {
-        return false;
-    }
     // word 5 of a root is its container, and its word 6 says nothing
-    if level1 == 1 {
-        return true;
-    }
-    back_in_range(arena, slots, n)
+    level1 <= b as u64
+        && non_empty(arena, slots, n)
+        && (level1 == 1 || back_in_range(arena, slots, n))
 }
 
 // How many bits of node n, whose word 4 is level1, want a child: those above the last level.
@@ -147,26 +122,6 @@ fn at_last(arena: &[u64], slots: usize, b: usize, n: usize, level1: u64) -> usiz
     set_bits(arena, slots, n)
 }
 
-// 1 if x is not 0, else 0.
-fn some(x: u64) -> usize
-    ensures { result ≡ min 1 x }
-{
-    if x == 0 {
-        return 0;
-    }
-    1
-}
-
-// 1 if x is 1, else 0.
-fn only(x: u64) -> usize
-    ensures { result ≡ one (eqb x 1) }
-{
-    if x == 1 {
-        return 1;
-    }
-    0
-}
-
 // How many nodes are in use before `end`, where `taken` are before `from`. It reads one word a node: it also brings the
 // nodes of the block near for the loops that follow.
 fn in_use(arena: &[u64], slots: usize, from: usize, end: usize, taken: usize) -> usize
@@ -176,15 +131,14 @@ fn in_use(arena: &[u64], slots: usize, from: usize, end: usize, taken: usize) ->
     ensures { result ≡ nodes_used (nodes_in slots arena.now) end }
 {
     let mut all = taken;
-    let mut n = from;
-    while n < end {
-        all += some(read::level1(arena, slots, n));
-        n += 1;
+    for n in from..end {
+        let level1 = read::level1(arena, slots, n);
+        all += usize::from(level1 != 0);
     }
     all
 }
 
-// The tally goes on over the nodes up to `end`.
+// The tally goes on over the nodes up to `end`, if they keep what they must by their own words.
 fn own_all(
     arena: &[u64],
     slots: usize,
@@ -192,42 +146,29 @@ fn own_all(
     b: usize,
     from: usize,
     end: usize,
-    roots: usize,
-    bits: usize,
-    last: usize,
-) -> Tally
+    tally: Tally,
+) -> Option<Tally>
     requires arena_len { length arena.now ≡ slots + node_words * slots }
     requires free_le_slots { (free ≤ slots) × (b ≤ 5) }
     requires from_le_end { (from ≤ end) × (end ≤ slots) }
-    requires tallied { Tallied slots b free (spare_in arena.now) (nodes_in slots arena.now) from roots bits last }
-    ensures yes { result.ok ≡ true → Tallied slots b free (spare_in arena.now) (nodes_in slots arena.now) end result.roots result.bits result.last }
-    ensures no { result.ok ≡ false → ((n : ℕ) → n < slots → OwnOk slots b free (spare_in arena.now) (nodes_in slots arena.now) n) → ⊥ }
+    requires tallied { Tallied slots b free (spare_in arena.now) (nodes_in slots arena.now) from tally.roots tally.bits tally.last }
+    ensures { MatchOption result (((n : ℕ) → n < slots → OwnOk slots b free (spare_in arena.now) (nodes_in slots arena.now) n) → ⊥) (λ t. Tallied slots b free (spare_in arena.now) (nodes_in slots arena.now) end t.roots t.bits t.last) }
 {
-    let mut roots = roots;
-    let mut bits = bits;
-    let mut last = last;
-    let mut n = from;
-    while n < end {
+    let Tally {
+        mut roots,
+        mut bits,
+        mut last,
+    } = tally;
+    for n in from..end {
         let level1 = read::level1(arena, slots, n);
         if !own_ok(arena, slots, free, b, n, level1) {
-            return Tally {
-                ok: false,
-                roots,
-                bits,
-                last,
-            };
+            return None;
         }
-        roots += only(level1);
+        roots += usize::from(level1 == 1);
         bits += branches(arena, slots, b, n, level1);
         last += at_last(arena, slots, b, n, level1);
-        n += 1;
     }
-    Tally {
-        ok: true,
-        roots,
-        bits,
-        last,
-    }
+    Some(Tally { roots, bits, last })
 }
 
 // Whether node n, if it is below a root, is named by its parent.
@@ -244,18 +185,9 @@ fn hangs(arena: &[u64], slots: usize, n: usize) -> bool
     }
     let p = read::parent(arena, slots, n) as usize;
     let x = read::byte(arena, slots, n) as usize;
-    let above = read::level1(arena, slots, p);
-    if above != level1 - 1 {
-        return false;
-    }
-    if !read::test(arena, slots, p, x) {
-        return false;
-    }
-    let child = read::child(arena, slots, p, x);
-    if child != n as u64 {
-        return false;
-    }
-    true
+    read::level1(arena, slots, p) == level1 - 1
+        && read::test(arena, slots, p, x)
+        && read::child(arena, slots, p, x) == n as u64
 }
 
 // Whether the nodes up to `end` are named by their parents, where those before `from` are.
@@ -267,12 +199,10 @@ fn all_hang(arena: &[u64], slots: usize, from: usize, end: usize) -> bool
     ensures yes { result ≡ true → (n : ℕ) → n < end → Hangs slots (nodes_in slots arena.now) n }
     ensures no { result ≡ false → ((n : ℕ) → n < slots → Hangs slots (nodes_in slots arena.now) n) → ⊥ }
 {
-    let mut n = from;
-    while n < end {
+    for n in from..end {
         if !hangs(arena, slots, n) {
             return false;
         }
-        n += 1;
     }
     true
 }
@@ -282,49 +212,45 @@ fn block_end(n: usize, slots: usize) -> usize
     requires { n < slots }
     ensures { (n < result) × (result ≤ slots) }
 {
-    if slots - n < BLOCK {
-        return slots;
-    }
-    n + BLOCK
+    n + BLOCK.min(slots - n)
 }
 
 // Whether the arena is well formed, for tries of b levels and with `used` nodes in use.
-pub fn well_formed(arena: &[u64], slots: usize, used: usize, b: usize) -> Verdict
+pub fn well_formed(arena: &[u64], slots: usize, used: usize, b: usize) -> Option<Sound>
     requires arena_len { length arena.now ≡ slots + node_words * slots }
     requires b_bound { b ≤ 5 }
     ensures { CheckedAs slots b used arena.now result }
 {
     // with more in use than there are, slots - used would wrap
     if used > slots {
-        return Verdict::Malformed;
+        return None;
     }
     let free = slots - used;
-    let mut taken: usize = 0;
-    let mut roots: usize = 0;
-    let mut bits: usize = 0;
-    let mut last: usize = 0;
-    let mut n: usize = 0;
+    let mut taken = 0;
+    let mut tally = Tally {
+        roots: 0,
+        bits: 0,
+        last: 0,
+    };
+    let mut n = 0;
     while n < slots {
         let end = block_end(n, slots);
         taken = in_use(arena, slots, n, end, taken);
-        let tally = own_all(arena, slots, free, b, n, end, roots, bits, last);
-        if !tally.ok {
-            return Verdict::Malformed;
-        }
+        tally = own_all(arena, slots, free, b, n, end, tally)?;
         if !all_hang(arena, slots, n, end) {
-            return Verdict::Malformed;
+            return None;
         }
-        roots = tally.roots;
-        bits = tally.bits;
-        last = tally.last;
         n = end;
     }
     if taken != used {
-        return Verdict::Malformed;
+        return None;
     }
     // a node in use is a root, or the child of a bit
-    if roots + bits != used {
-        return Verdict::Malformed;
+    if tally.roots + tally.bits != used {
+        return None;
     }
-    Verdict::Sound(roots, last)
+    Some(Sound {
+        roots: tally.roots,
+        last: tally.last,
+    })
 }

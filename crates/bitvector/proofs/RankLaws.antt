@@ -7,8 +7,10 @@ use native.Mathlib.Nat.{add-zero, add-suc, mod-one, mod-eq_of_lt}
 use native.Mathlib.Numerals.{add-one}
 use native.Mathlib.Omega.{arith}
 use native.Mathlib.Decide.{ℕ_discrete, dec_lt}
-use lib.ListN.{get_or, length, get_or-eq_default}
+use lib.ListN.{get_or, length, take, get_or-eq_default}
 use lib.Count.{ones, ones_in}
+use Rattle.std.proofs.Common.{get_or-take}
+use Rattle.std.proofs.lemmas.List.{length-take-le}
 use Rattle.lists.specs.Sums.{sum}
 use Rattle.lists.proofs.Sums.{sum_same, sum_more}
 use Rattle.region.specs.Bits.{word_bit, bit, rank}
@@ -83,6 +85,14 @@ pub rank-at : (ws : List ℕ) (i : ℕ) → rank ws i ≡ rank ws (i / 64 * 64) 
 rank-at ws i =
     let e : i ≡ i / 64 * 64 + i % 64 = omega arith in
     ap (rank ws) e ∙ rank-part ws (i / 64) (i % 64) (omega arith)
+
+-- the first q words alone have as many bits set as are below bit q * 64
+pub rank-front : (ws : List ℕ) (q : ℕ) → q ≤ length ws → rank (take q ws) (length (take q ws) * 64) ≡ rank ws (q * 64)
+unfolding rank bit
+rank-front ws q l =
+    let e : length (take q ws) ≡ q = length-take-le q ws l in
+    ap (λ (n : ℕ). rank (take q ws) (n * 64)) e
+    ∙ sum_same (bit ws) (bit (take q ws)) (q * 64) (λ i h. ap (λ (w : ℕ). word_bit w (i % 64)) (get_or-take q ws (i / 64) 0 (omega arith)))
 
 -- the same where the word's number is known
 pub rank-in : (ws : List ℕ) (i q : ℕ) → i / 64 ≡ q → rank ws i ≡ rank ws (q * 64) + ones (get_or ws q 0 % 2 ^ (i % 64))

@@ -1,20 +1,18 @@
 -- The search for the next set bit: `w & (MAX << m)` keeps the bits from m on, trailing zeros are the place of the lowest, and whole words are passed
 -- while they are 0. Assumes nothing.
 use mathlib.Core.Path.{◌≡◌, refl, sym, ap, ◌∙◌, subst}
-use mathlib.Core.Logic.{◌≢◌}
 use mathlib.Core.List.{List}
 use Prim.Native.Nat.{ℕ, zero, suc, ◌+◌, ◌-◌, ◌*◌, ◌/◌, ◌%◌, ◌^◌, ◌≤◌, ◌<◌, suc-le-suc}
-use native.Mathlib.Nat.{lt_of_le_of_lt, le_of_suc-le-suc, not-suc-le-zero, zero-lt-suc, pow-suc, div-one, mul-suc, mul_comm}
+use native.Mathlib.Nat.{le_of_suc-le-suc, not-suc-le-zero, zero-lt-suc, pow-suc, div-one, mul-suc, mul_comm}
 use native.Mathlib.Omega.{arith}
 use native.Mathlib.Decide.{dec_lt}
 use lib.Arith.{digits_mod}
 use lib.Pow.{suc_ones, pow_pos, pow-lt, shl-shr, shr-shr, shr_mod}
-use lib.Bits.{bit_and, and_high, and_le_l, shifted_half, shifted_even}
+use lib.Bits.{bit_and, and_high, shifted_half, shifted_even}
 use lib.Count.{count_trailing_zeros, under}
 use lib.ListN.{get_or, length}
 use Rattle.region.specs.Bits.{word_bit, bit}
-use Rattle.bitvector.specs.Maps.{NextSet}
-use Rattle.bitvector.specs.declared.Next.TheVariants.{At, Nothing}
+use Rattle.bitvector.specs.Maps.{Lowest, Least}
 use Rattle.bitvector.proofs.WordLaws.{bit-suc, bit-zero}
 use Rattle.bitvector.proofs.RankLaws.{bit-of, bit-out}
 
@@ -90,7 +88,6 @@ from-high w m b hw h l =
 pub record Walk (s : List ℕ) (from k w : ℕ) : Type 0 where
   pub inside : k < length s
   pub past : from < k * 64 + 64
-  pub small : w < 2 ^ 64
   pub none : (j : ℕ) → from ≤ j → j < k * 64 → bit s j ≡ 0
   pub same : (b : ℕ) → b < 64 → from ≤ k * 64 + b → word_bit w b ≡ word_bit (get_or s k 0) b
   pub low : (b : ℕ) → b < 64 → k * 64 + b < from → word_bit w b ≡ 0
@@ -111,49 +108,50 @@ pub walk_start : (s : List ℕ) (from : ℕ) → from / 64 < length s → get_or
 walk_start s from h hw = record {
   inside = h;
   past = omega arith;
-  small = lt_of_le_of_lt (and_le_l (get_or s (from / 64) 0) (((2 ^ 64 - 1) * 2 ^ (from % 64)) % 2 ^ 64)) hw;
   none = λ j a b. absurd (omega arith);
   same = λ b l a. from-high (get_or s (from / 64) 0) (from % 64) b hw (omega arith) (omega arith);
   low = λ b l a. from_low (get_or s (from / 64) 0) (from % 64) b hw (omega arith) (omega arith);
 }
 
-pub walk-next : {s : List ℕ} {from k w : ℕ} → Walk s from k w → w ≡ 0 → k + 1 < length s → get_or s (k + 1) 0 < 2 ^ 64 → Walk s from (k + 1) (get_or s (k + 1) 0)
-walk-next {s} {from} {k} {w} W e h hw = record {
-  inside = h;
-  past = omega arith;
-  small = hw;
+-- no bit is set from `from` to word k
+pub record Passed (s : List ℕ) (from k : ℕ) : Type 0 where
+  pub past : from < k * 64
+  pub none : (j : ℕ) → from ≤ j → j < k * 64 → bit s j ≡ 0
+
+-- a word that is passed has no bit from `from` on
+pub walk-passed : {s : List ℕ} {from k w : ℕ} → Walk s from k w → w ≡ 0 → Passed s from (k + 1)
+walk-passed {s} {from} {k} {w} W e = record {
+  past = omega (arith, W.past);
   none = λ j a b. clear-to 64 W (omega arith) (λ x l. ap (λ (y : ℕ). word_bit y x) e ∙ bit-zero x) j a (omega arith);
-  same = λ b l a. refl;
-  low = λ b l a. absurd (omega arith);
 }
 
-pub walk_end : {s : List ℕ} {from k w : ℕ} → Walk s from k w → w ≡ 0 → length s ≤ k + 1 → NextSet s from Nothing
-walk_end {s} {from} {k} {w} W e h j a = go (dec_lt j (k * 64 + 64))
+pub walk-next : {s : List ℕ} {from k : ℕ} → Passed s from k → k < length s → Walk s from k (get_or s k 0)
+walk-next {s} {from} {k} P h = record {
+  inside = h;
+  past = omega (arith, P.past);
+  none = P.none;
+  same = λ b l a. refl;
+  low = λ b l a. absurd (omega (arith, P.past));
+}
+
+pub passed-all : {s : List ℕ} {from k : ℕ} → Passed s from k → length s ≤ k → (j : ℕ) → from ≤ j → bit s j ≡ 0
+passed-all {s} {from} {k} P h j a = go (dec_lt j (k * 64))
   where
-    go : Dec (j < k * 64 + 64) → bit s j ≡ 0
-    go (yes v) = clear-to 64 W (omega arith) (λ x l. ap (λ (y : ℕ). word_bit y x) e ∙ bit-zero x) j a v
+    go : Dec (j < k * 64) → bit s j ≡ 0
+    go (yes v) = P.none j a v
     go (no v) = bit-out s j (omega arith)
 
-pub walk-found : {s : List ℕ} {from k w : ℕ} → Walk s from k w → w ≢ 0 → NextSet s from (At (k * 64 + count_trailing_zeros 64 w))
-walk-found {s} {from} {k} {w} W n = record {
-  inside = omega (arith, W.inside, low);
+pub walk-found : {s : List ℕ} {from k w t : ℕ} → Walk s from k w → Lowest w t → Least s from (k * 64 + t)
+walk-found {s} {from} {k} {w} {t} W L = record {
+  inside = omega (arith, W.inside, L.small);
   past = up;
-  is_set = bit-of s k t low ∙ sym (W.same t low up) ∙ one;
-  none = clear-to t W (omega (arith, low)) (trailing_below 64 w);
+  is_set = bit-of s k t L.small ∙ sym (W.same t L.small up) ∙ L.is_set;
+  none = clear-to t W (omega (arith, L.small)) L.none;
 }
   where
-    t : ℕ
-    t = count_trailing_zeros 64 w
-
-    low : t < 64
-    low = trailing_lt 64 w (omega arith) W.small
-
-    one : word_bit w t ≡ 1
-    one = trailing-bit 64 w low
-
     up : from ≤ k * 64 + t
     up = go (dec_lt (k * 64 + t) from)
       where
         go : Dec (k * 64 + t < from) → from ≤ k * 64 + t
-        go (yes v) = absurd (omega (arith, one, W.low t low v))
+        go (yes v) = absurd (omega (arith, L.is_set, W.low t L.small v))
         go (no v) = omega arith

@@ -11,7 +11,7 @@ use lib.Dec.{eqb}
 use lib.ListN.{get_or, length}
 use Rattle.region.specs.Bits.{word_bit, bit}
 use Rattle.bitvector.specs.Maps.{MadeIn, Lowest, Least, Popped}
-use Rattle.bitvector.specs.declared.Next.TheVariants.{At}
+use Rattle.std.specs.Prelude.{Some}
 use Rattle.bitvector.proofs.WordLaws.{bit-zero}
 use Rattle.bitvector.proofs.RankLaws.{bit-of, bit-out}
 use Rattle.bitvector.proofs.Four.{made-four}
@@ -60,7 +60,7 @@ cleared-in ws q j k w' l z f = go (ℕ_discrete q j)
 -- word q is the first that is not 0, k its lowest bit, and w' the word without it
 pub popped : (ws : List ℕ) (q k w' : ℕ) → length ws ≡ 4 → q < 4 → ((p : ℕ) → p < q → get_or ws p 0 ≡ 0) → Lowest (get_or ws q 0) k
     → word_bit w' k ≡ 0 → ((b : ℕ) → b ≢ k → word_bit w' b ≡ word_bit (get_or ws q 0) b)
-    → Popped ws (At (q * 64 + k))
+    → Popped ws (Some (q * 64 + k))
     (cond (eqb q 0) w' (get_or ws 0 0) ∷ cond (eqb q 1) w' (get_or ws 1 0) ∷ cond (eqb q 2) w' (get_or ws 2 0) ∷ cond (eqb q 3) w' (get_or ws 3 0) ∷ [])
 popped ws q k w' len h z L g f = (
   least-in ws q k (omega arith) z L,

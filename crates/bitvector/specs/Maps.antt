@@ -1,8 +1,6 @@
 -- What the functions over a map of bits say, over the one definition of a bit (region/specs/Bits). Assumes nothing.
-use Rattle.std.specs.Prelude.{ℕ, ◌+◌, ◌*◌, ◌/◌, ◌%◌, ◌≤◌, ◌<◌, ◌≡◌, ◌≢◌, List, length, get_or}
+use Rattle.std.specs.Prelude.{ℕ, ◌+◌, ◌*◌, ◌/◌, ◌%◌, ◌≤◌, ◌<◌, ◌≡◌, ◌≢◌, List, length, get_or, Option, Some, None}
 use Rattle.region.specs.Bits.{word_bit, bit, rank}
-use Rattle.bitvector.specs.declared.Next.{Next}
-use Rattle.bitvector.specs.declared.Next.TheVariants.{At, Nothing}
 
 -- the words after are ws with bit i made v: no other bit and no other word is changed
 pub record Made (ws : List ℕ) (i v : ℕ) (after : List ℕ) : Type 0 where
@@ -31,14 +29,14 @@ pub record Least (ws : List ℕ) (from i : ℕ) : Type 0 where
   pub none : (j : ℕ) → from ≤ j → j < i → bit ws j ≡ 0
 
 -- the answer of a search: the least set bit at or past from, or that there is none
-abbrev pub NextSet : List ℕ → ℕ → Next → Type 0
-NextSet ws from (At i) = Least ws from i
-NextSet ws from Nothing = (j : ℕ) → from ≤ j → bit ws j ≡ 0
+abbrev pub NextSet : List ℕ → ℕ → Option ℕ → Type 0
+NextSet ws from (Some i) = Least ws from i
+NextSet ws from None = (j : ℕ) → from ≤ j → bit ws j ≡ 0
 
 -- the least byte is taken out of the words ws, and the words rest are what is left
-abbrev pub Popped : List ℕ → Next → List ℕ → Type 0
-Popped ws (At i) rest = Least ws 0 i × Made ws i 0 rest
-Popped ws Nothing rest = ((j : ℕ) → bit ws j ≡ 0) × (rest ≡ ws)
+abbrev pub Popped : List ℕ → Option ℕ → List ℕ → Type 0
+Popped ws (Some i) rest = Least ws 0 i × Made ws i 0 rest
+Popped ws None rest = ((j : ℕ) → bit ws j ≡ 0) × (rest ≡ ws)
 
 -- the bytes of the map w stand in out' in ascending order from its first place on, n of them, and behind them it is as out
 pub record WalkedInto (w out : List ℕ) (n : ℕ) (out' : List ℕ) : Type 0 where

@@ -3,7 +3,7 @@ ghost use Rattle.std.specs.Prelude.{◌≡◌, ◌*◌, ◌^◌, ◌≤◌, ◌<
 ghost use Rattle.region.specs.Bits.{bit, rank};
 ghost use Rattle.bitvector.specs.Maps.{Made, NextSet};
 
-use super::{Next, word};
+use super::word;
 
 // Is bit i set?
 pub fn test(s: &[u64], i: usize) -> bool
@@ -13,7 +13,7 @@ pub fn test(s: &[u64], i: usize) -> bool
     word::test(s[i / 64], i % 64)
 }
 
-// Sets bit i, and says whether it was clear.
+// Sets bit i, and says whether it was clear. Setting and clearing stay two functions: one that is passed the bit would branch at each word.
 pub fn set(s: &mut [u64], i: usize) -> bool
     requires { i < length s.old * 64 }
     ensures made { Made s.old i 1 s.new }
@@ -35,26 +35,16 @@ pub fn clear(s: &mut [u64], i: usize) -> bool
     word::test(w, i % 64)
 }
 
-// How many bits of the first n words are set. A plain counting loop, which the compiler makes wide.
-fn count_words(s: &[u64], n: usize) -> usize
-    requires { (n ≤ length s.now) × (n * 64 < 2 ^ 64) }
-    ensures { result ≡ rank s.now (n * 64) }
-{
-    let mut sum: usize = 0;
-    let mut k: usize = 0;
-    while k < n {
-        sum += word::count(s[k]);
-        k += 1;
-    }
-    sum
-}
-
-// How many bits are set.
+// How many bits are set. A plain counting loop, which the compiler makes wide.
 pub fn count(s: &[u64]) -> usize
     requires { length s.now * 64 < 2 ^ 64 }
     ensures { result ≡ rank s.now (length s.now * 64) }
 {
-    count_words(s, s.len())
+    let mut sum = 0;
+    for &w in s {
+        sum += word::count(w);
+    }
+    sum
 }
 
 // How many bits below bit i are set.
@@ -62,27 +52,26 @@ pub fn rank(s: &[u64], i: usize) -> usize
     requires { i < length s.now * 64 }
     ensures { result ≡ rank s.now i }
 {
-    count_words(s, i / 64) + word::count_below(s[i / 64], i % 64)
+    count(&s[..i / 64]) + word::count_below(s[i / 64], i % 64)
 }
 
 // The least set bit at or past `from`, word by word.
-pub fn next_set(s: &[u64], from: usize) -> Next
+pub fn next_set(s: &[u64], from: usize) -> Option<usize>
     requires { length s.now * 64 < 2 ^ 64 }
     ensures { NextSet s.now from result }
 {
-    let mut k = from / 64;
+    let k = from / 64;
     if k >= s.len() {
-        return Next::Nothing;
+        return None;
     }
-    let mut w = s[k] & (u64::MAX << (from % 64));
-    loop {
-        if w != 0 {
-            return Next::At(k * 64 + u64::trailing_zeros(w) as usize);
-        }
-        k += 1;
-        if k >= s.len() {
-            return Next::Nothing;
-        }
-        w = s[k];
+    let w = s[k] & (u64::MAX << (from % 64));
+    if w != 0 {
+        return Some(k * 64 + word::lowest(w));
     }
+    for i in k + 1..s.len() {
+        if s[i] != 0 {
+            return Some(i * 64 + word::lowest(s[i]));
+        }
+    }
+    None
 }

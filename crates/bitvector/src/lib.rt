@@ -5,10 +5,3 @@ pub mod bitmap;
 pub mod thin;
 pub mod tiny;
 pub mod word;
-
-// What a search for the next set bit finds.
-#[derive(Clone, Copy)]
-pub enum Next {
-    At(usize),
-    Nothing,
-}

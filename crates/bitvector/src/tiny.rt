@@ -3,14 +3,14 @@ ghost use Rattle.std.specs.Prelude.{◌≡◌, ◌++◌, ℕ, ◌+◌, ◌≤◌
 ghost use Rattle.region.specs.Bits.{bit, rank};
 ghost use Rattle.bitvector.specs.Maps.{Made, NextSet, Popped, WalkedInto, WordWalked};
 
-use super::{Next, bitmap, word};
+use super::{bitmap, word};
 
-#[derive(Clone, Copy)]
+#[derive(Clone, Copy, Debug, PartialEq, Eq)]
 pub struct TinyBitvector {
     pub w: [u64; 4],
 }
 
-// The map after an insert, and whether the byte was absent before.
+// The map after an insert, and whether the byte was absent before. It is no one struct with `Removed`: the two answers have opposite senses.
 #[derive(Clone, Copy)]
 pub struct Inserted {
     pub map: TinyBitvector,
@@ -27,7 +27,7 @@ pub struct Removed {
 // The least byte, and the map of the bytes after it.
 #[derive(Clone, Copy)]
 pub struct First {
-    pub at: Next,
+    pub at: Option<usize>,
     pub rest: TinyBitvector,
 }
 
@@ -184,7 +184,7 @@ impl TinyBitvector {
         if a != 0 {
             let k = word::lowest(a);
             return First {
-                at: Next::At(k),
+                at: Some(k),
                 rest: Self {
                     w: [word::without(a, k), b, c, d],
                 },
@@ -193,7 +193,7 @@ impl TinyBitvector {
         if b != 0 {
             let k = word::lowest(b);
             return First {
-                at: Next::At(64 + k),
+                at: Some(64 + k),
                 rest: Self {
                     w: [a, word::without(b, k), c, d],
                 },
@@ -202,7 +202,7 @@ impl TinyBitvector {
         if c != 0 {
             let k = word::lowest(c);
             return First {
-                at: Next::At(128 + k),
+                at: Some(128 + k),
                 rest: Self {
                     w: [a, b, word::without(c, k), d],
                 },
@@ -211,14 +211,14 @@ impl TinyBitvector {
         if d != 0 {
             let k = word::lowest(d);
             return First {
-                at: Next::At(192 + k),
+                at: Some(192 + k),
                 rest: Self {
                     w: [a, b, c, word::without(d, k)],
                 },
             };
         }
         First {
-            at: Next::Nothing,
+            at: None,
             rest: self,
         }
     }
@@ -235,7 +235,7 @@ impl TinyBitvector {
     }
 
     // The least byte of the map at or past `from`, by trailing zeros.
-    pub fn next(self, from: usize) -> Next
+    pub fn next(self, from: usize) -> Option<usize>
         ensures { NextSet self.w from result }
     {
         let w = self.w;

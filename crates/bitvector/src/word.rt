@@ -12,7 +12,7 @@ pub fn test(w: u64, k: usize) -> bool
     (w >> k) & 1 == 1
 }
 
-// w with bit k set.
+// w with bit k set. With and without stay two functions: the two masks have no plainer form in common.
 pub fn with(w: u64, k: usize) -> u64
     requires { k < 64 }
     ensures here { word_bit result k ≡ 1 }

@@ -1,2 +1,1 @@
 pub mod OneVerdict
-pub mod Crossing

@@ -1,10 +1,11 @@
 // Pack and unpack for C and Rust: numbers in, a verdict of numbers out.
 ghost use Rattle.model.specs.Keys.{fields_are};
+ghost use Rattle.promises.specs.Answers.{packed, unpacked};
 ghost use Rattle.promises.specs.Keys.{PackPromise, UnpackPromise};
 ghost use Rattle.brothowl.specs.Verdicts.{Crosses, pack_verdict, unpack_verdict, with_fields};
 ghost use Rattle.std.specs.Prelude.{◌≡◌};
 
-use promises::{Card, Fields, Folder, Frame, Kind, Packed, Rollover, Unpacked};
+use promises::{Card, FieldOutOfRange, Fields, Folder, Frame, Kind, Rollover, UnpackRefusal};
 
 // number 0 and place 0: packed, with its key. Else the refusal's number and place, and key 0.
 #[repr(C)]
@@ -28,6 +29,61 @@ pub struct UnpackVerdict {
     pub kind: u64,
 }
 
+impl From<Result<u64, FieldOutOfRange>> for PackVerdict {
+    ghost from_gives = { λ answer v. v ≡ pack_verdict (packed answer) };
+
+    fn from(answer: Result<u64, FieldOutOfRange>) -> PackVerdict {
+        match answer {
+            Ok(key) => PackVerdict {
+                number: 0,
+                place: 0,
+                key,
+            },
+            Err(FieldOutOfRange(field)) => PackVerdict {
+                number: 10,
+                place: field as u64,
+                key: 0,
+            },
+        }
+    }
+}
+
+impl UnpackVerdict {
+    fn refused(number: u64, place: usize) -> UnpackVerdict
+        ensures { result ≡ with_fields number place (fields_are 0 0 0 0 0) }
+    {
+        UnpackVerdict {
+            number,
+            place: place as u64,
+            card: 0,
+            rollover: 0,
+            folder: 0,
+            frame: 0,
+            kind: 0,
+        }
+    }
+}
+
+impl From<Result<Fields, UnpackRefusal>> for UnpackVerdict {
+    ghost from_gives = { λ answer v. v ≡ unpack_verdict (unpacked answer) };
+
+    fn from(answer: Result<Fields, UnpackRefusal>) -> UnpackVerdict {
+        match answer {
+            Ok(f) => UnpackVerdict {
+                number: 0,
+                place: 0,
+                card: f.card.0,
+                rollover: f.rollover.0,
+                folder: f.folder.0,
+                frame: f.frame.0,
+                kind: f.kind.0,
+            },
+            Err(UnpackRefusal::WordTooLarge) => UnpackVerdict::refused(6, 0),
+            Err(UnpackRefusal::FieldOutOfRange(field)) => UnpackVerdict::refused(10, field),
+        }
+    }
+}
+
 pub fn brothowl_pack(card: u64, rollover: u64, folder: u64, frame: u64, kind: u64) -> PackVerdict
     ensures { Crosses pack_verdict (PackPromise (fields_are card rollover folder frame kind)) result }
 {
@@ -38,48 +94,11 @@ pub fn brothowl_pack(card: u64, rollover: u64, folder: u64, frame: u64, kind: u6
         frame: Frame(frame),
         kind: Kind(kind),
     };
-    match keys::pack(f) {
-        Packed::Key(key) => PackVerdict {
-            number: 0,
-            place: 0,
-            key,
-        },
-        Packed::FieldOutOfRange(k) => PackVerdict {
-            number: 10,
-            place: k as u64,
-            key: 0,
-        },
-    }
+    keys::pack(f).into()
 }
 
 pub fn brothowl_unpack(word: u64) -> UnpackVerdict
     ensures { Crosses unpack_verdict (UnpackPromise word) result }
 {
-    match keys::unpack(word) {
-        Unpacked::Fields(f) => UnpackVerdict {
-            number: 0,
-            place: 0,
-            card: f.card.0,
-            rollover: f.rollover.0,
-            folder: f.folder.0,
-            frame: f.frame.0,
-            kind: f.kind.0,
-        },
-        Unpacked::WordTooLarge => no_fields(6, 0),
-        Unpacked::FieldOutOfRange(k) => no_fields(10, k as u64),
-    }
-}
-
-fn no_fields(number: u64, place: u64) -> UnpackVerdict
-    ensures { result ≡ with_fields number place (fields_are 0 0 0 0 0) }
-{
-    UnpackVerdict {
-        number,
-        place,
-        card: 0,
-        rollover: 0,
-        folder: 0,
-        frame: 0,
-        kind: 0,
-    }
+    keys::unpack(word).into()
 }

@@ -1,263 +1,216 @@
 // What a line of a script asks for, or what was expected instead.
-use super::text;
+use std::alloc::{AllocError, Global};
+use std::fmt;
+use std::ops::RangeInclusive;
+use std::slice::Iter;
+use thiserror::Error;
 
-// Frames of one folder, first and last included, of one kind: 0 raw, 1 sidecar.
-#[derive(Clone, Copy)]
+#[derive(Clone, Copy, Debug, PartialEq, Eq)]
+pub enum Verb {
+    Look,
+    Cache,
+    Delete,
+}
+
+#[derive(Clone, Copy, Debug, PartialEq, Eq)]
+pub enum Kind {
+    Raw,
+    Sidecar,
+}
+
+// Frames of one folder, first and last included, of one kind.
+#[derive(Clone, Copy, Debug)]
 pub struct Batch {
-    // the command of a list: 0 look, 1 cache, 2 delete
-    pub code: u8,
+    pub verb: Verb,
     pub card: u64,
     pub rollover: u64,
     pub folder: u64,
     pub first: u64,
     pub last: u64,
-    pub kind: u64,
+    pub kind: Kind,
 }
 
-// What was expected of a line.
-#[derive(Clone, Copy)]
-pub enum Expected {
-    Command,
-    Region,
-    OneRegion,
-    Cards,
-    Nodes,
-    Key(Part),
-    End,
-}
-
-// What was expected of a key.
-#[derive(Clone, Copy)]
-pub enum Part {
-    Card,
-    Rollover,
-    Folder,
-    Frames,
-    Order,
-    Kind,
-}
-
-#[derive(Clone, Copy)]
+#[derive(Clone, Copy, Debug)]
 pub enum Command {
-    Nothing,
-    Region(u64, u64),
+    Region { cards: u64, nodes: u64 },
     Frames(Batch),
     Open(u64),
     Walk,
     Count,
-    Wrong(Expected),
 }
 
-// A number out of a line, and the place behind it.
-#[derive(Clone, Copy)]
-struct Number {
-    value: u64,
-    to: usize,
+#[derive(Clone, Copy, Debug, PartialEq, Eq, Error)]
+pub enum Expected {
+    #[error("expected region, cache, delete, look, open, walk or count")]
+    Command,
+    #[error("expected region CARDS NODES before anything else")]
+    Region,
+    #[error("expected no second region: one is made already")]
+    OneRegion,
+    #[error("expected room for cards, 1 to 8")]
+    Cards,
+    #[error("expected room for trie nodes, 0 to 64")]
+    Nodes,
+    #[error("expected a card, 0 to 4095")]
+    Card,
+    #[error("expected a rollover, 0 to 7")]
+    Rollover,
+    #[error("expected a folder, 100 to 999")]
+    Folder,
+    #[error("expected a frame, 0 to 9999, or FIRST-LAST")]
+    Frames,
+    #[error("expected FIRST-LAST with the first not above the last")]
+    Order,
+    #[error("expected raw or sidecar")]
+    Kind,
+    #[error("expected the end of the line")]
+    End,
 }
 
-// FRAME or FIRST-LAST, and the place behind it.
-#[derive(Clone, Copy)]
-struct Range {
-    first: u64,
-    last: u64,
-    to: usize,
-}
-
-fn number_at(line: &[u8], at: usize) -> Number {
-    let w = text::word_at(line, at);
-    let to = w.to;
-    Number {
-        value: text::number(text::part(line, w.from, to)),
-        to,
-    }
-}
-
-fn range_at(line: &[u8], at: usize) -> Range {
-    let w = text::word_at(line, at);
-    let to = w.to;
-    let word = text::part(line, w.from, to);
-    let dash = text::dash(word);
-    if dash >= word.len() {
-        let frame = text::number(word);
-        return Range {
-            first: frame,
-            last: frame,
-            to,
-        };
-    }
-    Range {
-        first: text::number(&word[0..dash]),
-        last: text::number(&word[dash + 1..]),
-        to,
+impl Verb {
+    // The code of the command in a list.
+    pub fn code(self) -> u8 {
+        match self {
+            Verb::Look => 0,
+            Verb::Cache => 1,
+            Verb::Delete => 2,
+        }
     }
 }
 
-// The number of a kind's name, or 2.
-fn kind(name: &[u8]) -> u64 {
-    if text::same(name, b"raw") {
-        return 0;
+impl fmt::Display for Verb {
+    fn fmt<W: fmt::Write>(&self, f: &mut fmt::Formatter<W>) -> fmt::Result {
+        f.write_str(match self {
+            Verb::Look => "look",
+            Verb::Cache => "cache",
+            Verb::Delete => "delete",
+        })
     }
-    if text::same(name, b"sidecar") {
-        return 1;
-    }
-    2
 }
 
-fn wrong(what: Expected) -> Command {
-    Command::Wrong(what)
+impl Kind {
+    // The number of the kind in a key.
+    pub fn code(self) -> u64 {
+        match self {
+            Kind::Raw => 0,
+            Kind::Sidecar => 1,
+        }
+    }
 }
 
-fn no_key(what: Part) -> Command {
-    wrong(Expected::Key(what))
+impl fmt::Display for Kind {
+    fn fmt<W: fmt::Write>(&self, f: &mut fmt::Formatter<W>) -> fmt::Result {
+        f.pad(match self {
+            Kind::Raw => "raw",
+            Kind::Sidecar => "sidecar",
+        })
+    }
 }
 
-// The command, if the line ends at a place.
-fn ended(line: &[u8], at: usize, command: Command) -> Command {
-    let w = text::word_at(line, at);
-    if w.from < w.to {
-        return wrong(Expected::End);
-    }
-    command
+// The words of a line that are still to be read.
+type Rest<'a, 'b> = Iter<'a, &'b str>;
+
+// The words of a line: blanks are spaces, tabs and carriage returns, and a word that starts with '#' opens a comment.
+pub fn words<'a>(alloc: Global, line: &'a str) -> Result<Vec<&'a str>, AllocError> {
+    line.split([' ', '\t', '\r'])
+        .filter(|word| !word.is_empty())
+        .take_while(|word| !word.starts_with('#'))
+        .collect(alloc)
 }
 
-// CARDS NODES
-fn region(line: &[u8], at: usize) -> Command {
-    let cards = number_at(line, at);
-    if cards.value < 1 {
-        return wrong(Expected::Cards);
+// The number that a word is. It has digits alone: `parse` would take a sign too.
+fn number(word: &str) -> Option<u64> {
+    if word.bytes().all(|b| b.is_ascii_digit()) {
+        word.parse().ok()
+    } else {
+        None
     }
-    if cards.value > 8 {
-        return wrong(Expected::Cards);
-    }
-    let nodes = number_at(line, cards.to);
-    if nodes.value > 64 {
-        return wrong(Expected::Nodes);
-    }
-    ended(line, nodes.to, Command::Region(cards.value, nodes.value))
 }
 
-// FRAME KIND, after the card, the rollover and the folder.
-fn frames(line: &[u8], at: usize, code: u8, card: u64, rollover: u64, folder: u64) -> Command {
-    let r = range_at(line, at);
-    if r.first > 9999 {
-        return no_key(Part::Frames);
+// The number of a range that a word is.
+fn number_in(word: &str, range: RangeInclusive<u64>) -> Option<u64> {
+    number(word).filter(|n| range.contains(n))
+}
+
+fn next_number(
+    rest: &mut Rest<'_, '_>,
+    range: RangeInclusive<u64>,
+    expected: Expected,
+) -> Result<u64, Expected> {
+    let word = rest.next().ok_or(expected)?;
+    number_in(word, range).ok_or(expected)
+}
+
+// FRAME or FIRST-LAST
+fn frames(rest: &mut Rest<'_, '_>) -> Result<(u64, u64), Expected> {
+    let word = rest.next().ok_or(Expected::Frames)?;
+    let (first, last) = word.split_once('-').unwrap_or((word, word));
+    let first = number_in(first, 0..=9999).ok_or(Expected::Frames)?;
+    let last = number_in(last, 0..=9999).ok_or(Expected::Frames)?;
+    if last < first {
+        return Err(Expected::Order);
     }
-    if r.last > 9999 {
-        return no_key(Part::Frames);
+    Ok((first, last))
+}
+
+fn raw_or_sidecar(rest: &mut Rest<'_, '_>) -> Result<Kind, Expected> {
+    match rest.next() {
+        Some(&"raw") => Ok(Kind::Raw),
+        Some(&"sidecar") => Ok(Kind::Sidecar),
+        _ => Err(Expected::Kind),
     }
-    if r.last < r.first {
-        return no_key(Part::Order);
-    }
-    let w = text::word_at(line, r.to);
-    let end = w.to;
-    let kind = kind(text::part(line, w.from, end));
-    if kind > 1 {
-        return no_key(Part::Kind);
-    }
-    let b = Batch {
-        code,
-        card,
-        rollover,
-        folder,
-        first: r.first,
-        last: r.last,
-        kind,
-    };
-    ended(line, end, Command::Frames(b))
 }
 
 // CARD ROLLOVER FOLDER FRAME KIND
-fn batch_at(line: &[u8], at: usize, code: u8) -> Command {
-    let card = number_at(line, at);
-    if card.value > 4095 {
-        return no_key(Part::Card);
-    }
-    let rollover = number_at(line, card.to);
-    if rollover.value > 7 {
-        return no_key(Part::Rollover);
-    }
-    let folder = number_at(line, rollover.to);
-    if folder.value < 100 {
-        return no_key(Part::Folder);
-    }
-    if folder.value > 999 {
-        return no_key(Part::Folder);
-    }
-    frames(
-        line,
-        folder.to,
-        code,
-        card.value,
-        rollover.value,
-        folder.value,
-    )
+fn some_frames(verb: Verb, rest: &mut Rest<'_, '_>) -> Result<Command, Expected> {
+    let card = next_number(rest, 0..=4095, Expected::Card)?;
+    let rollover = next_number(rest, 0..=7, Expected::Rollover)?;
+    let folder = next_number(rest, 100..=999, Expected::Folder)?;
+    let (first, last) = frames(rest)?;
+    let kind = raw_or_sidecar(rest)?;
+    Ok(Command::Frames(Batch {
+        verb,
+        card,
+        rollover,
+        folder,
+        first,
+        last,
+        kind,
+    }))
 }
 
-// CARD
-fn open(line: &[u8], at: usize) -> Command {
-    let card = number_at(line, at);
-    if card.value > 4095 {
-        return no_key(Part::Card);
-    }
-    ended(line, card.to, Command::Open(card.value))
+// CARDS NODES
+fn new_region(rest: &mut Rest<'_, '_>) -> Result<Command, Expected> {
+    let cards = next_number(rest, 1..=8, Expected::Cards)?;
+    let nodes = next_number(rest, 0..=64, Expected::Nodes)?;
+    Ok(Command::Region { cards, nodes })
 }
 
-// What follows a name that is known, 9 for no such name.
-fn named(name: &[u8]) -> u64 {
-    if text::same(name, b"look") {
-        return 0;
-    }
-    if text::same(name, b"cache") {
-        return 1;
-    }
-    if text::same(name, b"delete") {
-        return 2;
-    }
-    if text::same(name, b"open") {
-        return 3;
-    }
-    if text::same(name, b"walk") {
-        return 4;
-    }
-    if text::same(name, b"count") {
-        return 5;
-    }
-    9
-}
-
-// A line that needs a region.
-fn on_region(line: &[u8], at: usize, name: u64) -> Command {
+// What a name and the words behind it ask for. `made` says whether there is a region.
+fn named(name: &str, rest: &mut Rest<'_, '_>, made: bool) -> Result<Command, Expected> {
     match name {
-        0 => batch_at(line, at, 0),
-        1 => batch_at(line, at, 1),
-        2 => batch_at(line, at, 2),
-        3 => open(line, at),
-        4 => ended(line, at, Command::Walk),
-        5 => ended(line, at, Command::Count),
-        _ => wrong(Expected::Command),
+        "region" if made => Err(Expected::OneRegion),
+        "region" => new_region(rest),
+        "look" | "cache" | "delete" | "open" | "walk" | "count" if !made => Err(Expected::Region),
+        "look" => some_frames(Verb::Look, rest),
+        "cache" => some_frames(Verb::Cache, rest),
+        "delete" => some_frames(Verb::Delete, rest),
+        "open" => Ok(Command::Open(next_number(rest, 0..=4095, Expected::Card)?)),
+        "walk" => Ok(Command::Walk),
+        "count" => Ok(Command::Count),
+        _ => Err(Expected::Command),
     }
 }
 
-// What a line asks for. `made` says whether there is a region.
-pub fn read(line: &[u8], made: bool) -> Command {
-    let w = text::word_at(line, 0);
-    let at = w.to;
-    let name = text::part(line, w.from, at);
-    if name.len() == 0 {
-        return Command::Nothing;
+// What the words of a line ask for, if there are any.
+pub fn read(words: &[&str], made: bool) -> Result<Option<Command>, Expected> {
+    let mut rest = words.iter();
+    let Some(name) = rest.next() else {
+        return Ok(None);
+    };
+    let command = named(name, &mut rest, made)?;
+    match rest.next() {
+        Some(_) => Err(Expected::End),
+        None => Ok(Some(command)),
     }
-    if text::same(name, b"region") {
-        if made {
-            return wrong(Expected::OneRegion);
-        }
-        return region(line, at);
-    }
-    let known = named(name);
-    if known > 5 {
-        return wrong(Expected::Command);
-    }
-    if !made {
-        return wrong(Expected::Region);
-    }
-    on_region(line, at, known)
 }

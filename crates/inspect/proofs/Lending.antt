@@ -22,7 +22,8 @@ use Rattle.region.specs.Read.{read}
 use Rattle.region.specs.WellFormed.{Placed, Trie, Held, Ready}
 use Rattle.region.proofs.Listing.{members-ascend}
 use Rattle.arena_check.specs.Answers.{CheckedAs}
-use Rattle.arena_check.specs.declared.Verdict.{Verdict}
+use Rattle.arena_check.specs.declared.Sound.{Sound}
+use Rattle.std.specs.Prelude.{Option}
 use Rattle.lens.specs.Parts.{parts_of, arena_of}
 use Rattle.lens.proofs.Holding.{Sized, begin, sized}
 use Rattle.make.proofs.Ranges.{Ranges, ranges}
@@ -104,11 +105,11 @@ module _ (l : List ℕ) (r : Ready l) where
 
   -- The nodes
 
-  module _ (n u b : ℕ) (en : n ≡ g.N) (eu : u ≡ g.used) (eb : b ≡ bytes_of g.S) where
-    pub hanging-asks : (length (part_of (get_or l 13 0) (get_or l 15 0) l) ≡ n + node_words * n) × (b ≤ 5)
-    hanging-asks = (ap length (lent_is l r) ∙ omega (arith, arena-long l r), omega (arith, (suffix-bits l r).1))
+  pub hanging-asks : (n : ℕ) → n ≡ g.N → length (part_of (get_or l 13 0) (get_or l 15 0) l) ≡ n + node_words * n
+  hanging-asks n en = ap length (lent_is l r) ∙ omega (arith, arena-long l r)
 
-    pub hanging-told : (a : Verdict) → CheckedAs n b u (part_of (get_or l 13 0) (get_or l 15 0) l) a → CheckedAs g.N (bytes_of g.S) g.used (arena_of g l) a
+  module _ (n u b : ℕ) (en : n ≡ g.N) (eu : u ≡ g.used) (eb : b ≡ bytes_of g.S) where
+    pub hanging-told : (a : Option Sound) → CheckedAs n b u (part_of (get_or l 13 0) (get_or l 15 0) l) a → CheckedAs g.N (bytes_of g.S) g.used (arena_of g l) a
     hanging-told a = subst (λ (A : Type 0). A) (λ i. CheckedAs (en i) (eb i) (eu i) (lent_is l r i) a)
 
   -- The member count

@@ -15,14 +15,15 @@ ghost use Rattle.inspect_slots.specs.Slots.{FreeStack};
 ghost use Rattle.promises.specs.Answers.{checked};
 ghost use Rattle.promises.specs.Check.{CheckPromise};
 
-use arena_check::Verdict;
+use arena_check::Sound;
 use inspect_slots::header::header_ok;
 use inspect_slots::ranks::ranks_ok;
 use inspect_slots::sizes::sizes;
 use inspect_slots::stack::stack_ok;
 use inspect_tries::tries_ok;
 use inspect_vectors::vectors_ok;
-use promises::Checked;
+use lens::read;
+use promises::Malformed;
 
 // Whether prefixes, ranks and records agree.
 fn slots_placed(region: &[u64]) -> bool
@@ -49,7 +50,7 @@ fn slots_placed(region: &[u64]) -> bool
 // Whether the free slots are once in the stack, each linked to its place.
 fn slots_stacked(region: &[u64]) -> bool
     requires ready { Ready region.now }
-    requires region_bound { (numbers region.now).k ≤ (numbers region.now).C }
+    requires placed { Placed (numbers region.now) (seen (numbers region.now) region.now) }
     ensures yes { result ≡ true → FreeStack (numbers region.now) (seen (numbers region.now) region.now) }
     ensures no { result ≡ false → FreeStack (numbers region.now) (seen (numbers region.now) region.now) → ⊥ }
 {
@@ -62,16 +63,15 @@ fn slots_stacked(region: &[u64]) -> bool
 }
 
 // Whether the nodes hang together and the free ones are stacked.
-fn nodes_hung(region: &[u64]) -> Verdict
+fn nodes_hung(region: &[u64]) -> Option<Sound>
     requires { Ready region.now }
     ensures { CheckedAs (numbers region.now).N (bytes_of (numbers region.now).S) (numbers region.now).used (arena_of (numbers region.now) region.now) result }
 {
     let start = region[13] as usize;
     let end = region[15] as usize;
-    let slots = region[4] as usize;
     let used = region[6] as usize;
-    let b = (region[2] as usize + 7) / 8;
-    arena_check::well_formed(&region[start..end], slots, used, b)
+    let shape = read::shape(region);
+    arena_check::well_formed(&region[start..end], shape.slots, used, shape.b)
 }
 
 // Whether the member count is true, where each stored length is.
@@ -85,11 +85,21 @@ fn count_true(region: &[u64]) -> bool
     let records = region[11] as usize;
     let entries = region[12] as usize;
     let slots = region[3] as usize;
-    let count = region[7];
-    if sizes(&region[records..entries], slots) != count {
-        return false;
+    sizes(&region[records..entries], slots) == region[7]
+}
+
+// Whether what lies behind the slots is well formed: the nodes, and what the containers hold.
+fn contents_ok(region: &[u64]) -> bool
+    requires ready { Ready region.now }
+    requires placed { Placed (numbers region.now) (seen (numbers region.now) region.now) }
+    requires stacked { FreeStack (numbers region.now) (seen (numbers region.now) region.now) }
+    ensures yes { result ≡ true → WellFormed region.now }
+    ensures no { result ≡ false → WellFormed region.now → ⊥ }
+{
+    match nodes_hung(region) {
+        Some(nodes) => vectors_ok(region) && tries_ok(region, nodes) && count_true(region),
+        None => false,
     }
-    true
 }
 
 // Whether the region is well formed.
@@ -97,35 +107,15 @@ pub fn well_formed(region: &[u64]) -> bool
     ensures yes { result ≡ true → WellFormed region.now }
     ensures no { result ≡ false → WellFormed region.now → ⊥ }
 {
-    if !header_ok(region) {
-        return false;
-    }
-    if !slots_placed(region) {
-        return false;
-    }
-    if !slots_stacked(region) {
-        return false;
-    }
-    match nodes_hung(region) {
-        Verdict::Malformed => false,
-        Verdict::Sound(roots, last) => {
-            if !vectors_ok(region) {
-                return false;
-            }
-            if !tries_ok(region, roots, last) {
-                return false;
-            }
-            count_true(region)
-        }
-    }
+    header_ok(region) && slots_placed(region) && slots_stacked(region) && contents_ok(region)
 }
 
 // Check a region.
-pub fn check(region: &[u64]) -> Checked
+pub fn check(region: &[u64]) -> Result<(), Malformed>
     ensures { CheckPromise region.now (checked result) }
 {
     if !well_formed(region) {
-        return Checked::Malformed;
+        return Err(Malformed);
     }
-    Checked::WellFormed
+    Ok(())
 }

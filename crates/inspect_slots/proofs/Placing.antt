@@ -1,13 +1,17 @@
 -- `Placed` as the code finds it: from set bit to set bit, then record by record; that every record in use is ranked follows by counting. Assumes nothing.
-use Prim.Native.Nat.{ℕ, ◌+◌, ◌*◌, ◌^◌, ◌<◌, ◌≤◌, min}
+use Prim.Native.Nat.{ℕ, zero, suc, ◌+◌, ◌*◌, ◌^◌, ◌<◌, ◌≤◌, min}
 use mathlib.Core.Path.{◌≡◌, refl, sym, ap, ◌∙◌, subst}
 use mathlib.Core.Logic.{◌≢◌}
+use mathlib.Core.Bool.{not}
 use mathlib.Core.List.{List, []}
+use mir.Val.{bool_byte}
+use lib.Dec.{eqb}
 use native.Mathlib.Omega.{arith}
 use native.Mathlib.Decide.{dec_lt}
 use native.Mathlib.Numerals.{add-one}
 use lib.ListN.{length, get_or}
 use lib.Pow.{pow_mono}
+use borrow.Author.Tests.{ne_eqb}
 use borrow.Author.Count.{below_more}
 use Rattle.lists.specs.Sums.{sum}
 use Rattle.region.specs.Geometry.{bitmap_words}
@@ -104,6 +108,11 @@ module _ {P C k : ℕ} {bm rk rec : List ℕ} {j left n : ℕ} (L : Looking P C 
         passed : (q : ℕ) → q < i → Dec (q < L.from) → bit bm q ≡ 1 → BorneAt C k rk rec q (rank bm q)
         passed q l (yes h) e = L.borne q h e
         passed q l (no h) e = absurd (omega (arith, next.none q (omega arith) l))
+
+-- a kind that is not 0 counts one
+pub one-if-used : (kind : ℕ) → bool_byte (not (eqb kind 0)) ≡ min 1 kind
+one-if-used zero = refl
+one-if-used (suc kind) = rw (ne_eqb (suc kind) 0 (λ z. omega arith)) (omega arith)
 
 -- The slots below c are passed: n of them in use
 

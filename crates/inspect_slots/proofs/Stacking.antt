@@ -1,11 +1,12 @@
 -- The free stack as the code finds it: free slots and places lead to each other, so if they are as many none is left over. Assumes nothing.
-use Prim.Native.Nat.{ℕ, ◌+◌, ◌-◌, ◌<◌, ◌≤◌, min}
+use Prim.Native.Nat.{ℕ, zero, suc, ◌+◌, ◌-◌, ◌<◌, ◌≤◌, min}
 use mathlib.Core.Path.{◌≡◌, refl, sym, ap, ◌∙◌}
 use native.Mathlib.Omega.{arith}
 use native.Mathlib.Numerals.{add-one}
+use mir.Val.{bool_byte}
 use lib.Dec.{eqb}
 use borrow.Author.Count.{below_more}
-use borrow.Author.Tests.{eqb-true, eqb-false}
+use borrow.Author.Tests.{eqb-true, eqb-false, ne_eqb}
 use Rattle.lists.specs.Sums.{sum}
 use Rattle.region.specs.Areas.{Numbers}
 use Rattle.region.specs.Seen.{Seen}
@@ -13,6 +14,11 @@ use Rattle.region.specs.WellFormed.{FreeSlot, Stacked}
 use Rattle.inspect_slots.specs.Slots.{FreeStack}
 use Rattle.lists.proofs.Answers.{Tells, told}
 use Rattle.lists.proofs.Matching.{Met, at_most, all-met, sum_step, sum_ones}
+
+-- a kind that is 0 counts one
+pub one-if-free : (kind : ℕ) → bool_byte (eqb kind 0) ≡ 1 - min 1 kind
+one-if-free zero = refl
+one-if-free (suc kind) = rw (ne_eqb (suc kind) 0 (λ z. omega arith)) (omega arith)
 
 -- 1 for a free slot, else 0
 abbrev pub is_free : Seen → ℕ → ℕ

@@ -30,10 +30,7 @@ fn borne_at(ranks: &[u64], records: &[u64], slots: usize, k: usize, p: usize, n:
         return false;
     }
     let at = RECORD_WORDS * slot as usize;
-    if records[at] == 0 {
-        return false;
-    }
-    records[at + 1] == p as u64
+    records[at] != 0 && records[at + 1] == p as u64
 }
 
 // Whether k prefixes are set, each borne by the record at its rank. What is left of word j is kept by itself: a clear word costs one
@@ -69,20 +66,7 @@ fn all_borne(bitmap: &[u64], ranks: &[u64], records: &[u64], p: u64, slots: usiz
         left = word::without(left, b);
         rank += 1;
     }
-    if rank != k {
-        return false;
-    }
-    true
-}
-
-// 1 for a slot in use, else 0.
-fn one_if_used(kind: u64) -> usize
-    ensures { result ≡ min 1 kind }
-{
-    if kind == 0 {
-        return 0;
-    }
-    1
+    rank == k
 }
 
 // Whether each slot is free, a vector or a trie, and k are in use.
@@ -92,19 +76,14 @@ fn in_use(records: &[u64], slots: usize, k: usize) -> bool
     ensures no { result ≡ false → InUse slots k records.now → ⊥ }
 {
     let mut n: usize = 0;
-    let mut c: usize = 0;
-    while c < slots {
+    for c in 0..slots {
         let kind = records[RECORD_WORDS * c];
         if kind > 2 {
             return false;
         }
-        n += one_if_used(kind);
-        c += 1;
+        n += usize::from(kind != 0);
     }
-    if n != k {
-        return false;
-    }
-    true
+    n == k
 }
 
 // Whether prefixes, ranks and records agree. That each record in use stands at its rank is not looked for: k prefixes have each
@@ -127,8 +106,5 @@ pub fn ranks_ok(
         return false;
     }
     let used = k as usize;
-    if !all_borne(bitmap, ranks, records, p, slots, used) {
-        return false;
-    }
-    in_use(records, slots, used)
+    all_borne(bitmap, ranks, records, p, slots, used) && in_use(records, slots, used)
 }

@@ -6,14 +6,11 @@ ghost use Rattle.inspect_slots.specs.Slots.{slot_seen, kind_in, size_in, stored}
 
 use make::geometry::RECORD_WORDS;
 
-// The length of a slot in use, and 0 of a free one, whose length is not looked at.
+// The length of a slot in use, and 0 of a free one, whose length is not looked at. Kinds are numbers here: words that are not checked yet hold any.
 fn size_if_used(kind: u64, size: u64) -> u64
     ensures { result ≡ cond (eqb kind 0) 0 size }
 {
-    if kind == 0 {
-        return 0;
-    }
-    size
+    if kind == 0 { 0 } else { size }
 }
 
 // The lengths of the slots in use, added up. At most 65,536 of at most 2^40 each: no sum wraps.
@@ -23,11 +20,9 @@ pub fn sizes(records: &[u64], slots: usize) -> u64
     ensures { result ≡ sum (stored (slot_seen [] [] [] records.now)) slots }
 {
     let mut total: u64 = 0;
-    let mut c: usize = 0;
-    while c < slots {
+    for c in 0..slots {
         let at = RECORD_WORDS * c;
         total += size_if_used(records[at], records[at + 2]);
-        c += 1;
     }
     total
 }

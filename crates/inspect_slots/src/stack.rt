@@ -19,20 +19,7 @@ fn stacked(stack: &[u64], records: &[u64], slots: usize, k: usize, c: usize) -> 
     }
     let link = records[at + 3];
     let free = slots - k;
-    if link >= free as u64 {
-        return false;
-    }
-    stack[link as usize] == c as u64
-}
-
-// 1 for a free slot, else 0.
-fn one_if_free(kind: u64) -> usize
-    ensures { result ≡ 1 - min 1 kind }
-{
-    if kind == 0 {
-        return 1;
-    }
-    0
+    link < free as u64 && stack[link as usize] == c as u64
 }
 
 // Whether the free slots are once in the stack, each linked to its place. The places are not walked: no two free slots are linked to
@@ -44,13 +31,11 @@ pub fn stack_ok(stack: &[u64], records: &[u64], slots: usize, k: usize) -> bool
     ensures no { result ≡ false → FreeStack (slot_numbers 0 slots k) (slot_seen [] [] stack.now records.now) → ⊥ }
 {
     let mut n: usize = 0;
-    let mut c: usize = 0;
-    while c < slots {
+    for c in 0..slots {
         if !stacked(stack, records, slots, k, c) {
             return false;
         }
-        n += one_if_free(records[RECORD_WORDS * c]);
-        c += 1;
+        n += usize::from(records[RECORD_WORDS * c] == 0);
     }
     n == slots - k
 }

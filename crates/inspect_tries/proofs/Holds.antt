@@ -1,5 +1,5 @@
 -- What a trie may hold, by its record and by its root in the lent arena. Assumes nothing.
-use Prim.Native.Nat.{ℕ, ◌-◌, ◌<◌, ◌≤◌}
+use Prim.Native.Nat.{ℕ, ◌-◌, ◌<◌}
 use mathlib.Core.Path.{◌≡◌, sym, ◌∙◌, subst, transport}
 use mathlib.Core.List.{List}
 use native.Mathlib.Omega.{arith}
@@ -14,7 +14,7 @@ use Rattle.arena.specs.Arena.{nodes_in, Tries, Arena}
 use Rattle.arena_check.specs.Checks.{roots_in, last_bits}
 use Rattle.lens.specs.Parts.{arena_of}
 use Rattle.inspect_tries.specs.TrieAt.{TrieAt}
-use Rattle.inspect_tries.proofs.Lent.{suffix-bits, lent_is, nodes-are}
+use Rattle.inspect_tries.proofs.Lent.{lent_is, nodes-are}
 
 -- the same root, said of what the code has read
 trie-at : {v w : Nodes} {S S' n n' c size size' : ℕ} → v ≡ w → S ≡ S' → n ≡ n' → size ≡ size' → TrieAt v S n c size ≡ TrieAt w S' n' c size'
@@ -31,20 +31,15 @@ module _ (l : List ℕ) (r : Ready l) where
   lent = take (get_or l 15 0 - get_or l 13 0) (drop (get_or l 13 0) l)
 
   -- what the look at the root asks
-  module _ (N : ℕ) (en : N ≡ g.N) (S : ℕ) (es : S ≡ g.S) where
-    lent-roots : roots_in (nodes_in N lent) N ≡ roots_in (nodes_in g.N (arena_of g l)) g.N
-    lent-roots = λ i. roots_in (nodes_in (en i) (lent_is l r i)) (en i)
+  module _ (N : ℕ) (en : N ≡ g.N) (b : ℕ) (eb : b ≡ bytes_of g.S) where
+    pub lent-tries : Arena g.N (bytes_of g.S) g.used (arena_of g l) → Tries N b lent
+    lent-tries a = subst (λ (z : ℕ). Tries z b lent) (sym en) (subst (λ (z : ℕ). Tries g.N z lent) (sym eb) (subst (Tries g.N (bytes_of g.S)) (sym (lent_is l r)) a.tries))
 
-    lent-last : last_bits (nodes_in N lent) (bytes_of S) N ≡ last_bits (nodes_in g.N (arena_of g l)) (bytes_of g.S) g.N
-    lent-last = λ i. last_bits (nodes_in (en i) (lent_is l r i)) (bytes_of (es i)) (en i)
+    pub lent-roots : roots_in (nodes_in g.N (arena_of g l)) g.N ≡ roots_in (nodes_in N lent) N
+    lent-roots = sym (λ i. roots_in (nodes_in (en i) (lent_is l r i)) (en i))
 
-    pub lent-tries : Arena g.N (bytes_of g.S) g.used (arena_of g l) → (n : ℕ) → n < g.N
-        → (roots : ℕ) → roots ≡ roots_in (nodes_in g.N (arena_of g l)) g.N → (last : ℕ) → last ≡ last_bits (nodes_in g.N (arena_of g l)) (bytes_of g.S) g.N
-        → Tries N (bytes_of S) lent × ((n < N) × (((1 ≤ S) × (S ≤ 40)) × ((roots ≡ roots_in (nodes_in N lent) N) × (last ≡ last_bits (nodes_in N lent) (bytes_of S) N))))
-    lent-tries a n h roots er last el = (
-      subst (λ (z : ℕ). Tries z (bytes_of S) lent) (sym en) (subst (λ (z : ℕ). Tries g.N (bytes_of z) lent) (sym es) (subst (Tries g.N (bytes_of g.S)) (sym (lent_is l r)) a.tries)),
-      (omega arith, ((omega (arith, (suffix-bits l r).0), omega (arith, (suffix-bits l r).1)), (er ∙ sym lent-roots, el ∙ sym lent-last))),
-    )
+    pub lent-last : last_bits (nodes_in g.N (arena_of g l)) (bytes_of g.S) g.N ≡ last_bits (nodes_in N lent) b N
+    lent-last = sym (λ i. last_bits (nodes_in (en i) (lent_is l r i)) (eb i) (en i))
 
   module _ (c N : ℕ) (en : N ≡ g.N) (S : ℕ) (es : S ≡ g.S) (n : ℕ) (er : n ≡ v.link c) (size : ℕ) (ez : size ≡ v.size c) where
     same : TrieAt (nodes_in N lent) S n c size ≡ TrieAt v.node g.S (v.link c) c (v.size c)

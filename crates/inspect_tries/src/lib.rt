@@ -7,13 +7,15 @@ ghost use Rattle.region.specs.Geometry.{node_words};
 ghost use Rattle.region.specs.Areas.{numbers};
 ghost use Rattle.region.specs.Seen.{seen};
 ghost use Rattle.region.specs.WellFormed.{Ready, Trie};
-ghost use Rattle.arena.specs.Arena.{Arena, Tries, nodes_in};
+ghost use Rattle.region.specs.Tries.{members};
+ghost use Rattle.arena.specs.Arena.{Arena, Tries, Root, nodes_in};
 ghost use Rattle.arena_check.specs.Checks.{roots_in, last_bits};
 ghost use Rattle.lens.specs.Parts.{arena_of};
 ghost use Rattle.inspect_tries.specs.TrieAt.{TrieAt};
 ghost use Rattle.inspect_tries.specs.AllTries.{AllTries};
 
-use arena::read as node;
+use arena::{Shape, read as node};
+use arena_check::Sound;
 use lens::read;
 use strip::trievec::TrieVec;
 use trie_walk::count;
@@ -23,7 +25,7 @@ fn first_end(bits: usize) -> usize
     requires { (1 ≤ bits) × (bits ≤ 40) }
     ensures { result ≡ 2 ^ (bits - 8 * (bytes_of bits - 1)) }
 {
-    let rest = (bits + 7) / 8 - 1;
+    let rest = bits.div_ceil(8) - 1;
     1usize << (bits - 8 * rest)
 }
 
@@ -34,58 +36,61 @@ fn bytes_below(arena: &[u64], slots: usize, n: usize, end: usize) -> bool
     ensures yes { result ≡ true → (x : ℕ) → x < 256 → (nodes_in slots arena.now).bit n x ≡ 1 → x < end }
     ensures no { result ≡ false → ((x : ℕ) → x < 256 → (nodes_in slots arena.now).bit n x ≡ 1 → x < end) → ⊥ }
 {
-    let mut x = end;
-    while x < 256 {
+    for x in end..256 {
         if node::test(arena, slots, n, x) {
             return false;
         }
-        x += 1;
     }
     true
 }
 
+// How many suffixes the trie with root n has. Under an only root hang all nodes: then they are the bits of the last level, and the trie is not walked.
+fn suffixes(arena: &[u64], shape: Shape, n: usize, nodes: Sound) -> usize
+    requires tries { Tries shape.slots shape.b arena.now }
+    requires n_root { Root (nodes_in shape.slots arena.now) shape.slots n }
+    requires roots_value { nodes.roots ≡ roots_in (nodes_in shape.slots arena.now) shape.slots }
+    requires last_value { nodes.last ≡ last_bits (nodes_in shape.slots arena.now) shape.b shape.slots }
+    ensures { result ≡ length (members (nodes_in shape.slots arena.now) shape.b n) }
+{
+    if nodes.roots == 1 {
+        nodes.last
+    } else {
+        count(arena, shape, n)
+    }
+}
+
 // Whether node n is the root of what the trie in slot c may hold. Suffixes are below 2^S if the bytes of the root are low enough: each has suffixes behind it.
-// Under an only root hang all nodes: then the bits of the last level are its suffixes, and the trie is not walked.
 fn root_ok(
     arena: &[u64],
-    slots: usize,
+    shape: Shape,
     bits: usize,
     n: usize,
     c: usize,
     len: usize,
-    roots: usize,
-    last: usize,
+    nodes: Sound,
 ) -> bool
-    requires tries { Tries slots (bytes_of bits) arena.now }
-    requires n_lt_slots { n < slots }
+    requires tries { Tries shape.slots shape.b arena.now }
+    requires n_lt_slots { n < shape.slots }
     requires le_bits { (1 ≤ bits) × (bits ≤ 40) }
-    requires roots_value { roots ≡ roots_in (nodes_in slots arena.now) slots }
-    requires last_value { last ≡ last_bits (nodes_in slots arena.now) (bytes_of bits) slots }
-    ensures yes { result ≡ true → TrieAt (nodes_in slots arena.now) bits n c len }
-    ensures no { result ≡ false → TrieAt (nodes_in slots arena.now) bits n c len → ⊥ }
+    requires levels { shape.b ≡ bytes_of bits }
+    requires roots_value { nodes.roots ≡ roots_in (nodes_in shape.slots arena.now) shape.slots }
+    requires last_value { nodes.last ≡ last_bits (nodes_in shape.slots arena.now) shape.b shape.slots }
+    ensures yes { result ≡ true → TrieAt (nodes_in shape.slots arena.now) bits n c len }
+    ensures no { result ≡ false → TrieAt (nodes_in shape.slots arena.now) bits n c len → ⊥ }
 {
-    if node::level1(arena, slots, n) != 1 {
-        return false;
-    }
-    if node::parent(arena, slots, n) != c as u64 {
-        return false;
-    }
-    if !bytes_below(arena, slots, n, first_end(bits)) {
-        return false;
-    }
-    if roots == 1 {
-        return last == len;
-    }
-    count(arena, slots, (bits + 7) / 8, n) == len
+    node::level1(arena, shape.slots, n) == 1
+        && node::parent(arena, shape.slots, n) == c as u64
+        && bytes_below(arena, shape.slots, n, first_end(bits))
+        && suffixes(arena, shape, n, nodes) == len
 }
 
 // Whether slot c holds what a trie may hold.
-fn trie_ok(region: &[u64], c: usize, roots: usize, last: usize) -> bool
+fn trie_ok(region: &[u64], c: usize, nodes: Sound) -> bool
     requires ready { Ready region.now }
     requires arena { Arena (numbers region.now).N (bytes_of (numbers region.now).S) (numbers region.now).used (arena_of (numbers region.now) region.now) }
     requires c_bound { c < (numbers region.now).C }
-    requires roots_value { roots ≡ roots_in (nodes_in (numbers region.now).N (arena_of (numbers region.now) region.now)) (numbers region.now).N }
-    requires last_value { last ≡ last_bits (nodes_in (numbers region.now).N (arena_of (numbers region.now) region.now)) (bytes_of (numbers region.now).S) (numbers region.now).N }
+    requires roots_value { nodes.roots ≡ roots_in (nodes_in (numbers region.now).N (arena_of (numbers region.now) region.now)) (numbers region.now).N }
+    requires last_value { nodes.last ≡ last_bits (nodes_in (numbers region.now).N (arena_of (numbers region.now) region.now)) (bytes_of (numbers region.now).S) (numbers region.now).N }
     ensures yes { result ≡ true → Trie (numbers region.now) (seen (numbers region.now) region.now) c }
     ensures no { result ≡ false → Trie (numbers region.now) (seen (numbers region.now) region.now) c → ⊥ }
 {
@@ -93,41 +98,36 @@ fn trie_ok(region: &[u64], c: usize, roots: usize, last: usize) -> bool
     if len <= TrieVec::THRESHOLD {
         return false;
     }
-    let slots = read::n(region);
+    let shape = read::shape(region);
     let root = read::link(region, c);
-    if root >= slots {
+    if root >= shape.slots {
         return false;
     }
     let bits = read::s(region);
     let start = region[13] as usize;
     let end = region[15] as usize;
-    root_ok(&region[start..end], slots, bits, root, c, len, roots, last)
+    root_ok(&region[start..end], shape, bits, root, c, len, nodes)
 }
 
 // Whether every trie holds what a trie may hold, and every root is that of the trie in the slot that its word 5 names.
 // Each trie has a root of its own: so if there are as many roots as tries, each root has its trie, and the roots are not walked.
-pub fn tries_ok(region: &[u64], roots: usize, last: usize) -> bool
+pub fn tries_ok(region: &[u64], nodes: Sound) -> bool
     requires ready { Ready region.now }
     requires arena { Arena (numbers region.now).N (bytes_of (numbers region.now).S) (numbers region.now).used (arena_of (numbers region.now) region.now) }
-    requires roots_value { roots ≡ roots_in (nodes_in (numbers region.now).N (arena_of (numbers region.now) region.now)) (numbers region.now).N }
-    requires last_value { last ≡ last_bits (nodes_in (numbers region.now).N (arena_of (numbers region.now) region.now)) (bytes_of (numbers region.now).S) (numbers region.now).N }
+    requires roots_value { nodes.roots ≡ roots_in (nodes_in (numbers region.now).N (arena_of (numbers region.now) region.now)) (numbers region.now).N }
+    requires last_value { nodes.last ≡ last_bits (nodes_in (numbers region.now).N (arena_of (numbers region.now) region.now)) (bytes_of (numbers region.now).S) (numbers region.now).N }
     ensures yes { result ≡ true → AllTries (numbers region.now) (seen (numbers region.now) region.now) }
     ensures no { result ≡ false → AllTries (numbers region.now) (seen (numbers region.now) region.now) → ⊥ }
 {
     let slots = read::c(region);
     let mut tries: usize = 0;
-    let mut c: usize = 0;
-    while c < slots {
+    for c in 0..slots {
         if read::kind(region, c) == 2 {
-            if !trie_ok(region, c, roots, last) {
+            if !trie_ok(region, c, nodes) {
                 return false;
             }
             tries += 1;
         }
-        c += 1;
     }
-    if tries != roots {
-        return false;
-    }
-    true
+    tries == nodes.roots
 }

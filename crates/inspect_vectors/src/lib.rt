@@ -20,10 +20,10 @@ fn last_below(suffixes: &[u64], bound: u64) -> bool
     requires { Ascending suffixes.now }
     ensures { result ≡ all (λ x. ltb x bound) suffixes.now }
 {
-    if suffixes.len() == 0 {
-        return true;
+    match suffixes.last() {
+        Some(last) => *last < bound,
+        None => true,
     }
-    suffixes[suffixes.len() - 1] < bound
 }
 
 // Whether suffixes are distinct and below 2^bits. Those that ascend are told by one pass.
@@ -34,12 +34,10 @@ fn suffixes_ok(suffixes: &[u64], bits: usize) -> bool
 {
     let bound = 1u64 << bits;
     if rising(suffixes) {
-        return last_below(suffixes, bound);
+        last_below(suffixes, bound)
+    } else {
+        below(suffixes, bound) && distinct(suffixes)
     }
-    if !below(suffixes, bound) {
-        return false;
-    }
-    distinct(suffixes)
 }
 
 // Whether slot c holds what a vector may hold.
@@ -50,10 +48,7 @@ fn vector_ok(region: &[u64], c: usize) -> bool
     ensures no { result ≡ false → Vector (numbers region.now) (seen (numbers region.now) region.now) c → ⊥ }
 {
     let len = read::size(region, c);
-    if len == 0 {
-        return false;
-    }
-    if len > TrieVec::THRESHOLD {
+    if len == 0 || len > TrieVec::THRESHOLD {
         return false;
     }
     let start = region[12] as usize + 1024 * c;
@@ -66,19 +61,12 @@ fn firsts_ok(region: &[u64], c: usize) -> bool
     requires { Ready region.now }
     ensures no { result ≡ false → ((c : ℕ) → c < (numbers region.now).C → (seen (numbers region.now) region.now).kind c ≡ 1 → Vector (numbers region.now) (seen (numbers region.now) region.now) c) → ⊥ }
 {
-    let slots = read::c(region);
+    let end = read::c(region).min(c.saturating_add(AHEAD));
     let bound = 1u64 << read::s(region);
-    let mut d = c;
-    while d < slots {
-        if d - c >= AHEAD {
-            return true;
+    for d in c..end {
+        if read::kind(region, d) == 1 && read::entry(region, d, 0) >= bound {
+            return false;
         }
-        if read::kind(region, d) == 1 {
-            if read::entry(region, d, 0) >= bound {
-                return false;
-            }
-        }
-        d += 1;
     }
     true
 }
@@ -90,19 +78,13 @@ pub fn vectors_ok(region: &[u64]) -> bool
     ensures no { result ≡ false → ((c : ℕ) → c < (numbers region.now).C → (seen (numbers region.now) region.now).kind c ≡ 1 → Vector (numbers region.now) (seen (numbers region.now) region.now) c) → ⊥ }
 {
     let slots = read::c(region);
-    let mut c: usize = 0;
-    while c < slots {
-        if c % AHEAD == 0 {
-            if !firsts_ok(region, c) {
-                return false;
-            }
+    for c in 0..slots {
+        if c % AHEAD == 0 && !firsts_ok(region, c) {
+            return false;
         }
-        if read::kind(region, c) == 1 {
-            if !vector_ok(region, c) {
-                return false;
-            }
+        if read::kind(region, c) == 1 && !vector_ok(region, c) {
+            return false;
         }
-        c += 1;
     }
     true
 }

@@ -1,4 +1,4 @@
-// Preview keys of document 01: pack five fields into a word of 40 bits, and unpack them. The fields' types and the answers are of `promises`.
+// Preview keys: pack five fields into a word of 40 bits, and unpack them. The fields' types and the refusals are of `promises`.
 #![tactic(auto)]
 
 mod layout;
@@ -7,29 +7,23 @@ mod range;
 ghost use Rattle.promises.specs.Answers.{fields, packed, unpacked};
 ghost use Rattle.promises.specs.Keys.{PackPromise, UnpackPromise};
 
-use promises::{Fields, Packed, Unpacked};
+use promises::{FieldOutOfRange, Fields, UnpackRefusal};
 
-pub fn pack(f: Fields) -> Packed
+pub fn pack(f: Fields) -> Result<u64, FieldOutOfRange>
     ensures { PackPromise (fields f) (packed result) }
 {
-    let bad = range::first_bad(f);
-    if bad < 5 {
-        return Packed::FieldOutOfRange(bad);
-    }
-    Packed::Key(layout::key(f))
+    range::in_range(f)?;
+    Ok(layout::key(f))
 }
 
-pub fn unpack(word: u64) -> Unpacked
+pub fn unpack(word: u64) -> Result<Fields, UnpackRefusal>
     ensures { UnpackPromise word (unpacked result) }
 {
     // 6 comes before 10: above 40 bits the card has more than its 12.
     if 1 << 40 <= word {
-        return Unpacked::WordTooLarge;
+        return Err(UnpackRefusal::WordTooLarge);
     }
     let f = layout::fields(word);
-    let bad = range::first_bad(f);
-    if bad < 5 {
-        return Unpacked::FieldOutOfRange(bad);
-    }
-    Unpacked::Fields(f)
+    range::in_range(f)?;
+    Ok(f)
 }

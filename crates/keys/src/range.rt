@@ -1,31 +1,30 @@
 // Which field of a key is the first out of range.
-ghost use Rattle.std.specs.Prelude.{◌≡◌};
 ghost use Rattle.promises.specs.Answers.{fields};
-ghost use Rattle.keys.specs.Range.{first_out};
+ghost use Rattle.keys.specs.Range.{OutAt, Judged};
 
-use promises::Fields;
+use promises::{FieldOutOfRange, Fields};
 
-// The first field out of range, or 5.
-pub fn first_bad(f: Fields) -> usize
-    ensures { result ≡ first_out (fields f) }
+// The first field out of range.
+fn first_bad(f: Fields) -> Option<usize>
+    ensures { OutAt (fields f) result }
 {
-    if 4095 < f.card.0 {
-        return 0;
+    [
+        f.card.0 <= 4095,
+        f.rollover.0 <= 7,
+        (100..=999).contains(&f.folder.0),
+        f.frame.0 <= 9999,
+        f.kind.0 <= 1,
+    ]
+    .iter()
+    .position(|good| !good)
+}
+
+// Refuses fields of which one is out of range.
+pub fn in_range(f: Fields) -> Result<(), FieldOutOfRange>
+    ensures { Judged (fields f) result }
+{
+    match first_bad(f) {
+        Some(field) => Err(FieldOutOfRange(field)),
+        None => Ok(()),
     }
-    if 7 < f.rollover.0 {
-        return 1;
-    }
-    if f.folder.0 < 100 {
-        return 2;
-    }
-    if 999 < f.folder.0 {
-        return 2;
-    }
-    if 9999 < f.frame.0 {
-        return 3;
-    }
-    if 1 < f.kind.0 {
-        return 4;
-    }
-    5
 }

@@ -1,16 +1,15 @@
 // An arena, looked at once: its tries asked, counted, walked, made of a strip and poured out.
-ghost use Rattle.std.specs.Prelude.{◌≡◌, ◌≤◌, true, length};
+ghost use Rattle.std.specs.Prelude.{◌≡◌, ◌≤◌, length};
 ghost use Rattle.arena.specs.Arena.{Arena};
 ghost use Rattle.leaves.specs.Kept.{Kept};
-ghost use Rattle.leaves.specs.Checked.{Measured, Narrow, Plantable};
+ghost use Rattle.leaves.specs.Checked.{Narrow, Plantable};
 
-use super::tries::{is_arena, limit};
-use super::{REFUSED, number};
-use arena::read;
-use strip::{bounds, differ};
+use super::REFUSED;
+use super::checks::{checked, is_arena, measured, narrow, plantable, rooted};
+use arena::{NoRoom, Shape};
 use trie_look::contains_each;
-use trie_pour::Planting;
 
+// The C interface's number for no room.
 const NO_ROOM: u64 = u64::MAX - 1;
 
 // The root of a new trie, REFUSED or NO_ROOM if there is none, and the nodes in use.
@@ -29,114 +28,27 @@ pub struct Poured {
     pub used: u64,
 }
 
-// Whether the words are an arena's by their number.
-fn measured(arena: &[u64], slots: u64, b: u64) -> bool
-    ensures { result ≡ true → Measured slots b arena.now }
-{
-    if slots > 16777216 {
-        return false;
-    }
-    let n = slots as usize;
-    if arena.len() != n + 264 * n {
-        return false;
-    }
-    if b < 1 {
-        return false;
-    }
-    b <= 5
-}
-
-// Whether they are an arena.
-fn checked(arena: &[u64], slots: u64, used: u64, b: u64) -> bool
-    ensures measured { result ≡ true → Measured slots b arena.now }
-    ensures arena { result ≡ true → Arena slots b used arena.now }
-{
-    if !measured(arena, slots, b) {
-        return false;
-    }
-    is_arena(arena, slots as usize, used as usize, b as usize)
-}
-
-// Whether they are an arena in which the root is one.
-fn rooted(arena: &[u64], slots: u64, used: u64, b: u64, root: u64) -> bool
-    ensures measured { result ≡ true → Measured slots b arena.now }
-    ensures kept { result ≡ true → Kept slots b root used arena.now }
-{
-    if root >= slots {
-        return false;
-    }
-    if !checked(arena, slots, used, b) {
-        return false;
-    }
-    read::level1(arena, slots as usize, root as usize) == 1
-}
-
-// Whether every suffix has at most b bytes.
-fn narrow(suffixes: &[u64], b: u64) -> bool
-    requires { b ≤ 5 }
-    ensures { result ≡ true → Narrow b suffixes.now }
-{
-    bounds::below(suffixes, limit(b as usize))
-}
-
-// Whether a trie can be made of the strip.
-fn plantable(strip: &[u64], b: u64) -> bool
-    requires { b ≤ 5 }
-    ensures { result ≡ true → Plantable b strip.now }
-{
-    if strip.len() < 1 {
-        return false;
-    }
-    if strip.len() > 1025 {
-        return false;
-    }
-    if !narrow(strip, b) {
-        return false;
-    }
-    differ::distinct(strip)
-}
-
 // 1 if the arena is well formed, else 0.
 pub fn leaf_arena_check(arena: &[u64], slots: u64, used: u64, b: u64) -> u64 {
-    if !measured(arena, slots, b) {
+    let Some(shape) = measured(arena, slots, b) else {
         return REFUSED;
-    }
-    number(is_arena(arena, slots as usize, used as usize, b as usize)) as u64
-}
-
-fn at_most_64(n: usize) -> usize
-    requires { 1 ≤ n }
-    ensures { (1 ≤ result) × (result ≤ n) × (result ≤ 64) }
-{
-    if n > 64 {
-        return 64;
-    }
-    n
+    };
+    u64::from(is_arena(arena, shape.slots, used as usize, shape.b))
 }
 
 // The suffixes, 64 at a time.
-fn ask(
-    arena: &[u64],
-    slots: usize,
-    used: usize,
-    b: usize,
-    root: usize,
-    suffixes: &[u64],
-    answers: &mut [u8],
-)
-    requires measured { Measured slots b arena.now }
-    requires kept { Kept slots b root used arena.now }
-    requires narrow { Narrow b suffixes.now }
+fn ask(arena: &[u64], shape: Shape, used: usize, root: usize, suffixes: &[u64], answers: &mut [u8])
+    requires kept { Kept shape.slots shape.b root used arena.now }
+    requires narrow { Narrow shape.b suffixes.now }
     requires answers_len { length answers.old ≡ length suffixes.now }
 {
-    let roots = [root as u64; 64];
-    let mut i: usize = 0;
+    let roots = [Some(root); 64];
+    let mut i = 0;
     while i < suffixes.len() {
-        let n = at_most_64(suffixes.len() - i);
+        let n = (suffixes.len() - i).min(64);
         contains_each(
             arena,
-            slots,
-            b,
+            shape,
             &roots[0..n],
             &suffixes[i..i + n],
             &mut answers[i..i + n],
@@ -158,17 +70,16 @@ pub fn leaf_trie_ask(
     if answers.len() != suffixes.len() {
         return REFUSED;
     }
-    if !rooted(arena, slots, used, b, root) {
+    let Some(shape) = rooted(arena, slots, used, b, root) else {
         return REFUSED;
-    }
-    if !narrow(suffixes, b) {
+    };
+    if !narrow(suffixes, shape.b) {
         return REFUSED;
     }
     ask(
         arena,
-        slots as usize,
+        shape,
         used as usize,
-        b as usize,
         root as usize,
         suffixes,
         answers,
@@ -178,10 +89,10 @@ pub fn leaf_trie_ask(
 
 // How many suffixes the trie with the root has.
 pub fn leaf_trie_count(arena: &[u64], slots: u64, used: u64, b: u64, root: u64) -> u64 {
-    if !rooted(arena, slots, used, b, root) {
+    let Some(shape) = rooted(arena, slots, used, b, root) else {
         return REFUSED;
-    }
-    trie_walk::count(arena, slots as usize, b as usize, root as usize) as u64
+    };
+    trie_walk::count(arena, shape, root as usize) as u64
 }
 
 // The suffixes of the trie with the root, ascending, from the one with number `start` on, and how many found room.
@@ -194,17 +105,10 @@ pub fn leaf_trie_walk(
     start: u64,
     out: &mut [u64],
 ) -> u64 {
-    if !rooted(arena, slots, used, b, root) {
+    let Some(shape) = rooted(arena, slots, used, b, root) else {
         return REFUSED;
-    }
-    trie_walk::walk(
-        arena,
-        slots as usize,
-        b as usize,
-        root as usize,
-        start as usize,
-        out,
-    ) as u64
+    };
+    trie_walk::walk(arena, shape, root as usize, start as usize, out) as u64
 }
 
 // The same from the first suffix, so many times: how many were written in all, modulo 2^64.
@@ -217,15 +121,13 @@ pub fn leaf_trie_walks(
     times: u64,
     out: &mut [u64],
 ) -> u64 {
-    if !rooted(arena, slots, used, b, root) {
+    let Some(shape) = rooted(arena, slots, used, b, root) else {
         return REFUSED;
-    }
+    };
     let mut written: u64 = 0;
-    let mut i: u64 = 0;
-    while i < times {
-        let n = trie_walk::walk(arena, slots as usize, b as usize, root as usize, 0, out) as u64;
-        written = std::num::wrapping_add_u64(written, n);
-        i += 1;
+    for _ in 0..times {
+        let n = trie_walk::walk(arena, shape, root as usize, 0, out) as u64;
+        written = written.wrapping_add(n);
     }
     written
 }
@@ -239,31 +141,22 @@ pub fn leaf_trie_build(
     container: u64,
     strip: &[u64],
 ) -> Built {
-    if !checked(arena, slots, used, b) {
-        return Built {
-            root: REFUSED,
-            used,
-        };
+    let refused = Built {
+        root: REFUSED,
+        used,
+    };
+    let Some(shape) = checked(arena, slots, used, b) else {
+        return refused;
+    };
+    if !plantable(strip, shape.b) {
+        return refused;
     }
-    if !plantable(strip, b) {
-        return Built {
-            root: REFUSED,
-            used,
-        };
-    }
-    match trie_pour::plant(
-        arena,
-        slots as usize,
-        used as usize,
-        b as usize,
-        container as usize,
-        strip,
-    ) {
-        Planting::At(root, left) => Built {
+    match trie_pour::plant(arena, shape, used as usize, container as usize, strip) {
+        Ok((root, left)) => Built {
             root: root as u64,
             used: left as u64,
         },
-        Planting::NoRoom => Built {
+        Err(_) => Built {
             root: NO_ROOM,
             used,
         },
@@ -279,56 +172,41 @@ pub fn leaf_trie_pour(
     root: u64,
     out: &mut [u64],
 ) -> Poured {
-    if !rooted(arena, slots, used, b, root) {
-        return Poured {
-            written: REFUSED,
-            used,
-        };
-    }
-    let written = trie_walk::count(arena, slots as usize, b as usize, root as usize);
+    let refused = Poured {
+        written: REFUSED,
+        used,
+    };
+    let Some(shape) = rooted(arena, slots, used, b, root) else {
+        return refused;
+    };
+    let written = trie_walk::count(arena, shape, root as usize);
     if written > out.len() {
-        return Poured {
-            written: REFUSED,
-            used,
-        };
+        return refused;
     }
-    let left = trie_pour::pour(
-        arena,
-        slots as usize,
-        used as usize,
-        b as usize,
-        root as usize,
-        out,
-    );
+    let left = trie_pour::pour(arena, shape, used as usize, root as usize, out);
     Poured {
         written: written as u64,
         used: left as u64,
     }
 }
 
-// A trie made of the strip and poured out again: whether there was room. The arena has as many nodes in use as before.
+// A trie made of the strip and poured out again. The arena has as many nodes in use as before.
 fn cross(
     arena: &mut [u64],
-    slots: usize,
+    shape: Shape,
     used: usize,
-    b: usize,
     container: usize,
     strip: &[u64],
     out: &mut [u64],
-) -> bool
-    requires le_b { (1 ≤ b) × (b ≤ 5) }
-    requires arena { Arena slots b used arena.old }
-    requires plantable { Plantable b strip.now }
+) -> Result<(), NoRoom>
+    requires arena { Arena shape.slots shape.b used arena.old }
+    requires plantable { Plantable shape.b strip.now }
     requires strip_in_bounds { length strip.now ≤ length out.old }
-    ensures { Arena slots b used arena.new }
+    ensures { Arena shape.slots shape.b used arena.new }
 {
-    match trie_pour::plant(arena, slots, used, b, container, strip) {
-        Planting::At(root, left) => {
-            trie_pour::pour(arena, slots, left, b, root, out);
-            true
-        }
-        Planting::NoRoom => false,
-    }
+    let (root, left) = trie_pour::plant(arena, shape, used, container, strip)?;
+    trie_pour::pour(arena, shape, left, root, out);
+    Ok(())
 }
 
 // So many times a trie made of the strip and poured out again, and how many times there was room.
@@ -345,27 +223,16 @@ pub fn leaf_trie_cross(
     if strip.len() > out.len() {
         return REFUSED;
     }
-    if !checked(arena, slots, used, b) {
+    let Some(shape) = checked(arena, slots, used, b) else {
+        return REFUSED;
+    };
+    if !plantable(strip, shape.b) {
         return REFUSED;
     }
-    if !plantable(strip, b) {
-        return REFUSED;
-    }
-    let mut i: u64 = 0;
-    while i < times {
-        let done = cross(
-            arena,
-            slots as usize,
-            used as usize,
-            b as usize,
-            container as usize,
-            strip,
-            out,
-        );
-        if !done {
+    for i in 0..times {
+        if cross(arena, shape, used as usize, container as usize, strip, out).is_err() {
             return i;
         }
-        i += 1;
     }
-    i
+    times
 }

@@ -1,20 +1,16 @@
 // The prefix bitmap, in a slice of any length. A place past the last bit is refused.
-ghost use Rattle.std.specs.Prelude.{◌≡◌, ◌≤◌, length};
-
-use super::{REFUSED, number};
+use super::REFUSED;
 use bitvector::bitmap;
 
 // How many bits below each place are set, summed.
 pub fn leaf_bitmap_rank(words: &[u64], places: &[u64]) -> u64 {
     let mut n: u64 = 0;
-    let mut i: usize = 0;
-    while i < places.len() {
-        let place = places[i] as usize;
-        if place / 64 >= words.len() {
+    for &place in places {
+        let i = place as usize;
+        if i / 64 >= words.len() {
             return REFUSED;
         }
-        n = std::num::wrapping_add_u64(n, bitmap::rank(words, place) as u64);
-        i += 1;
+        n = n.wrapping_add(bitmap::rank(words, i) as u64);
     }
     n
 }
@@ -22,16 +18,12 @@ pub fn leaf_bitmap_rank(words: &[u64], places: &[u64]) -> u64 {
 // How many of the places are set.
 pub fn leaf_bitmap_test(words: &[u64], places: &[u64]) -> u64 {
     let mut n: u64 = 0;
-    let mut i: usize = 0;
-    while i < places.len() {
-        let place = places[i] as usize;
-        if place / 64 >= words.len() {
+    for &place in places {
+        let i = place as usize;
+        if i / 64 >= words.len() {
             return REFUSED;
         }
-        if bitmap::test(words, place) {
-            n = std::num::wrapping_add_u64(n, 1);
-        }
-        i += 1;
+        n = n.wrapping_add(u64::from(bitmap::test(words, i)));
     }
     n
 }
@@ -42,7 +34,7 @@ pub fn leaf_bitmap_set(words: &mut [u64], place: u64) -> u64 {
     if i / 64 >= words.len() {
         return REFUSED;
     }
-    number(bitmap::set(words, i)) as u64
+    u64::from(bitmap::set(words, i))
 }
 
 // Clears the bit, and says whether it was set.
@@ -51,5 +43,5 @@ pub fn leaf_bitmap_clear(words: &mut [u64], place: u64) -> u64 {
     if i / 64 >= words.len() {
         return REFUSED;
     }
-    number(bitmap::clear(words, i)) as u64
+    u64::from(bitmap::clear(words, i))
 }

@@ -1,59 +1,76 @@
-// A suffix as bytes.
-ghost use Rattle.std.specs.Prelude.{◌≡◌, ◌≤◌, length};
+// A suffix as bytes. How many there are is known when a call comes, and the functions that do the work have it as a parameter.
+ghost use Rattle.std.specs.Prelude.{◌≤◌};
 
 use super::REFUSED;
-use sliced_int::{Order, SlicedInt};
+use sliced_int::SlicedInt;
+use std::cmp::Ordering;
 
-// The b bytes of a suffix, the most significant first.
-fn put(s: u64, b: usize, out: &mut [u8])
-    requires { (b ≤ 5) × (b ≤ length out.old) }
-    ensures { length out.new ≡ length out.old }
+// The bytes of each suffix, the most significant first, one suffix behind the other, and how many suffixes found room.
+fn put_each<const BYTES: usize>(suffixes: &[u64], out: &mut [u8]) -> u64
+    requires { BYTES ≤ 5 }
 {
-    let bytes = SlicedInt::from_int(s, b).bytes;
-    let mut j: usize = 0;
-    while j < b {
-        out[j] = bytes[j];
-        j += 1;
+    let mut at = 0;
+    for (i, &s) in suffixes.iter().enumerate() {
+        if out.len() - at < BYTES {
+            return i as u64;
+        }
+        out[at..at + BYTES].copy_from_slice(&SlicedInt::<BYTES>::from_int(s).bytes);
+        at += BYTES;
+    }
+    suffixes.len() as u64
+}
+
+fn value<const BYTES: usize>(s: u64) -> u64
+    requires { BYTES ≤ 5 }
+{
+    SlicedInt::<BYTES>::from_int(s).to_int()
+}
+
+fn order<const BYTES: usize>(s: u64, t: u64) -> u64
+    requires { BYTES ≤ 5 }
+{
+    match SlicedInt::<BYTES>::from_int(s).compare(SlicedInt::<BYTES>::from_int(t)) {
+        Ordering::Less => 0,
+        Ordering::Equal => 1,
+        Ordering::Greater => 2,
     }
 }
 
 // The b bytes of each suffix, one behind the other, and how many suffixes found room.
 pub fn leaf_bytes(suffixes: &[u64], b: u64, out: &mut [u8]) -> u64 {
-    if b > 5 {
-        return REFUSED;
+    match b {
+        0 => put_each::<0>(suffixes, out),
+        1 => put_each::<1>(suffixes, out),
+        2 => put_each::<2>(suffixes, out),
+        3 => put_each::<3>(suffixes, out),
+        4 => put_each::<4>(suffixes, out),
+        5 => put_each::<5>(suffixes, out),
+        _ => REFUSED,
     }
-    let wide = b as usize;
-    let mut i: usize = 0;
-    let mut at: usize = 0;
-    while i < suffixes.len() {
-        if at + wide > out.len() {
-            return i as u64;
-        }
-        put(suffixes[i], wide, &mut out[at..]);
-        at += wide;
-        i += 1;
-    }
-    i as u64
 }
 
 // The number that the b bytes of a suffix are.
 pub fn leaf_value(s: u64, b: u64) -> u64 {
-    if b > 5 {
-        return REFUSED;
+    match b {
+        0 => value::<0>(s),
+        1 => value::<1>(s),
+        2 => value::<2>(s),
+        3 => value::<3>(s),
+        4 => value::<4>(s),
+        5 => value::<5>(s),
+        _ => REFUSED,
     }
-    SlicedInt::from_int(s, b as usize).to_int()
 }
 
 // 0 if the bytes of s come before those of t, 1 if they are the same, 2 if they come after.
 pub fn leaf_compare(s: u64, t: u64, b: u64) -> u64 {
-    if b > 5 {
-        return REFUSED;
-    }
-    let mine = SlicedInt::from_int(s, b as usize);
-    let theirs = SlicedInt::from_int(t, b as usize);
-    match mine.compare(theirs) {
-        Order::Less => 0,
-        Order::Equal => 1,
-        Order::Greater => 2,
+    match b {
+        0 => order::<0>(s, t),
+        1 => order::<1>(s, t),
+        2 => order::<2>(s, t),
+        3 => order::<3>(s, t),
+        4 => order::<4>(s, t),
+        5 => order::<5>(s, t),
+        _ => REFUSED,
     }
 }

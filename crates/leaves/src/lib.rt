@@ -6,15 +6,9 @@
 pub mod arenas;
 pub mod bits;
 pub mod bytes;
+mod checks;
 pub mod map;
 pub mod tries;
 
+// The C interface's number for a refusal.
 pub const REFUSED: u64 = u64::MAX;
-
-// A bool as a number.
-pub fn number(yes: bool) -> u8 {
-    if yes {
-        return 1;
-    }
-    0
-}

@@ -1,12 +1,11 @@
 // A trie in an arena: looked at once, then commands in a row.
-ghost use Rattle.std.specs.Prelude.{◌≡◌, ◌+◌, ◌*◌, ◌^◌, ◌<◌, ◌≤◌, true, length};
-ghost use Rattle.arena.specs.Arena.{Arena};
+ghost use Rattle.std.specs.Prelude.{◌≡◌, ◌*◌, ◌^◌, ◌<◌, true, length};
 ghost use Rattle.leaves.specs.Kept.{Kept};
 
-use super::{REFUSED, number};
-use arena::read;
-use arena_check::{Verdict, well_formed};
-use trie::{Inserted, Removed};
+use super::REFUSED;
+use super::checks::{limit, rooted};
+use arena::Shape;
+use trie::Removed;
 
 // How many commands were done, REFUSED if none could be, and the nodes in use.
 #[repr(C)]
@@ -16,7 +15,7 @@ pub struct Ran {
     pub used: u64,
 }
 
-// Whether the trie is still there to go on with, what the command answered, and the nodes in use.
+// Whether the trie is still there to go on with, what the command answered, and the nodes in use. `on` makes no option of it: the other two count either way.
 #[derive(Clone, Copy)]
 struct Step {
     on: bool,
@@ -24,34 +23,24 @@ struct Step {
     used: usize,
 }
 
-// The first number that no suffix of b bytes is.
-pub(crate) fn limit(b: usize) -> u64
-    requires { b ≤ 5 }
-    ensures { result ≡ 2 ^ (8 * b) }
-{
-    1u64 << (8 * b)
-}
-
 // 1 new, 0 old, 2 no room.
-fn put(arena: &mut [u64], slots: usize, used: usize, b: usize, root: usize, suffix: u64) -> Step
-    requires kept { Kept slots b root used arena.old }
-    requires le_b { 1 ≤ b }
-    requires b_bound { b ≤ 5 }
-    requires suffix_bound { suffix < 2 ^ (8 * b) }
-    ensures { result.on ≡ true → Kept slots b root result.used arena.new }
+fn put(arena: &mut [u64], shape: Shape, used: usize, root: usize, suffix: u64) -> Step
+    requires kept { Kept shape.slots shape.b root used arena.old }
+    requires suffix_bound { suffix < 2 ^ (8 * shape.b) }
+    ensures { result.on ≡ true → Kept shape.slots shape.b root result.used arena.new }
 {
-    match trie::insert(arena, slots, used, b, root, suffix) {
-        Inserted::New(left) => Step {
+    match trie::insert(arena, shape, used, root, suffix) {
+        Ok(Some(left)) => Step {
             on: true,
             answer: 1,
             used: left,
         },
-        Inserted::Old => Step {
+        Ok(None) => Step {
             on: true,
             answer: 0,
             used,
         },
-        Inserted::NoRoom => Step {
+        Err(_) => Step {
             on: false,
             answer: 2,
             used,
@@ -60,14 +49,12 @@ fn put(arena: &mut [u64], slots: usize, used: usize, b: usize, root: usize, suff
 }
 
 // 1 gone, 0 absent, 2 gone and it was the last.
-fn drop(arena: &mut [u64], slots: usize, used: usize, b: usize, root: usize, suffix: u64) -> Step
-    requires kept { Kept slots b root used arena.old }
-    requires le_b { 1 ≤ b }
-    requires b_bound { b ≤ 5 }
-    requires suffix_bound { suffix < 2 ^ (8 * b) }
-    ensures { result.on ≡ true → Kept slots b root result.used arena.new }
+fn drop(arena: &mut [u64], shape: Shape, used: usize, root: usize, suffix: u64) -> Step
+    requires kept { Kept shape.slots shape.b root used arena.old }
+    requires suffix_bound { suffix < 2 ^ (8 * shape.b) }
+    ensures { result.on ≡ true → Kept shape.slots shape.b root result.used arena.new }
 {
-    match trie::remove(arena, slots, used, b, root, suffix) {
+    match trie::remove(arena, shape, used, root, suffix) {
         Removed::Gone(left) => Step {
             on: true,
             answer: 1,
@@ -87,87 +74,56 @@ fn drop(arena: &mut [u64], slots: usize, used: usize, b: usize, root: usize, suf
 }
 
 // One command: 0 asks, 1 inserts, any other removes.
-fn one(
-    arena: &mut [u64],
-    slots: usize,
-    used: usize,
-    b: usize,
-    root: usize,
-    code: u8,
-    suffix: u64,
-) -> Step
-    requires kept { Kept slots b root used arena.old }
-    requires le_b { 1 ≤ b }
-    requires b_bound { b ≤ 5 }
-    requires suffix_bound { suffix < 2 ^ (8 * b) }
-    ensures { result.on ≡ true → Kept slots b root result.used arena.new }
+fn one(arena: &mut [u64], shape: Shape, used: usize, root: usize, code: u8, suffix: u64) -> Step
+    requires kept { Kept shape.slots shape.b root used arena.old }
+    requires suffix_bound { suffix < 2 ^ (8 * shape.b) }
+    ensures { result.on ≡ true → Kept shape.slots shape.b root result.used arena.new }
 {
-    if code == 0 {
-        let found = trie::contains(arena, slots, b, root, suffix);
-        return Step {
+    match code {
+        0 => Step {
             on: true,
-            answer: number(found),
+            answer: u8::from(trie::contains(arena, shape, root, suffix)),
             used,
-        };
+        },
+        1 => put(arena, shape, used, root, suffix),
+        _ => drop(arena, shape, used, root, suffix),
     }
-    if code == 1 {
-        return put(arena, slots, used, b, root, suffix);
-    }
-    drop(arena, slots, used, b, root, suffix)
 }
 
 fn run(
     arena: &mut [u64],
-    slots: usize,
+    shape: Shape,
     used: usize,
-    b: usize,
     root: usize,
     codes: &[u8],
     suffixes: &[u64],
     answers: &mut [u8],
 ) -> Ran
-    requires kept { Kept slots b root used arena.old }
-    requires le_b { 1 ≤ b }
-    requires b_bound { b ≤ 5 }
+    requires kept { Kept shape.slots shape.b root used arena.old }
     requires codes_len { (length codes.now ≡ length suffixes.now) × (length answers.old ≡ length suffixes.now) }
 {
-    let end = limit(b);
+    let end = limit(shape.b);
     let mut left = used;
-    let mut i: usize = 0;
-    while i < suffixes.len() {
-        let s = suffixes[i];
+    for (i, &s) in suffixes.iter().enumerate() {
         if s >= end {
             return Ran {
                 done: i as u64,
                 used: left as u64,
             };
         }
-        let step = one(arena, slots, left, b, root, codes[i], s);
+        let step = one(arena, shape, left, root, codes[i], s);
         answers[i] = step.answer;
         left = step.used;
-        i += 1;
         if !step.on {
             return Ran {
-                done: i as u64,
+                done: i as u64 + 1,
                 used: left as u64,
             };
         }
     }
     Ran {
-        done: i as u64,
+        done: suffixes.len() as u64,
         used: left as u64,
-    }
-}
-
-// Whether the arena is well formed.
-pub(crate) fn is_arena(arena: &[u64], slots: usize, used: usize, b: usize) -> bool
-    requires arena_len { length arena.now ≡ slots + 264 * slots }
-    requires b_bound { b ≤ 5 }
-    ensures { result ≡ true → Arena slots b used arena.now }
-{
-    match well_formed(arena, slots, used, b) {
-        Verdict::Malformed => false,
-        Verdict::Sound(_, _) => true,
     }
 }
 
@@ -183,67 +139,20 @@ pub fn leaf_trie_run(
     suffixes: &[u64],
     answers: &mut [u8],
 ) -> Ran {
-    if slots > 16777216 {
-        return Ran {
-            done: REFUSED,
-            used,
-        };
+    let refused = Ran {
+        done: REFUSED,
+        used,
+    };
+    if codes.len() != suffixes.len() || answers.len() != suffixes.len() {
+        return refused;
     }
-    let n = slots as usize;
-    if arena.len() != n + 264 * n {
-        return Ran {
-            done: REFUSED,
-            used,
-        };
-    }
-    if b < 1 {
-        return Ran {
-            done: REFUSED,
-            used,
-        };
-    }
-    if b > 5 {
-        return Ran {
-            done: REFUSED,
-            used,
-        };
-    }
-    if root >= slots {
-        return Ran {
-            done: REFUSED,
-            used,
-        };
-    }
-    if codes.len() != suffixes.len() {
-        return Ran {
-            done: REFUSED,
-            used,
-        };
-    }
-    if answers.len() != suffixes.len() {
-        return Ran {
-            done: REFUSED,
-            used,
-        };
-    }
-    if !is_arena(arena, n, used as usize, b as usize) {
-        return Ran {
-            done: REFUSED,
-            used,
-        };
-    }
-    let level1 = read::level1(arena, n, root as usize);
-    if level1 != 1 {
-        return Ran {
-            done: REFUSED,
-            used,
-        };
-    }
+    let Some(shape) = rooted(arena, slots, used, b, root) else {
+        return refused;
+    };
     run(
         arena,
-        n,
+        shape,
         used as usize,
-        b as usize,
         root as usize,
         codes,
         suffixes,

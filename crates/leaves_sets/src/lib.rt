@@ -10,25 +10,13 @@ ghost use Rattle.region.specs.WellFormed.{WellFormed};
 
 use inspect::well_formed;
 use lens::read;
-use promises::Listed;
+use promises::ListRefusal;
 use wordset_list::commands::run;
 use wordset_list::judge::{LONGEST, first_large, first_unknown};
 use wordset_walk::words_from;
 
+// C takes a number, and no Option.
 pub const REFUSED: u64 = u64::MAX;
-
-// The end of the list that begins at i.
-fn list_end(i: usize, len: usize) -> usize
-    requires { i < len }
-    ensures further { i < result }
-    ensures inside { result ≤ len }
-    ensures short { result ≤ i + longest }
-{
-    if len - i < LONGEST {
-        return len;
-    }
-    i + LONGEST
-}
 
 // Judges one list and runs it: how many of its commands were done, none of a list that is not good.
 fn run_list(region: &mut [u64], codes: &[u8], words: &[u64], answers: &mut [u8]) -> usize
@@ -37,14 +25,14 @@ fn run_list(region: &mut [u64], codes: &[u8], words: &[u64], answers: &mut [u8])
     requires words_in_bounds { length words.now ≤ length answers.old }
     ensures { WellFormed region.new }
 {
-    if first_unknown(codes) < codes.len() {
+    if first_unknown(codes).is_some() {
         return 0;
     }
-    if first_large(words, read::p(region), read::s(region)) < words.len() {
+    if first_large(words, read::p(region), read::s(region)).is_some() {
         return 0;
     }
     match run(region, codes, words, answers) {
-        Listed::NoRoom(i) => i,
+        Err(ListRefusal::NoRoom(i)) => i,
         _ => words.len(),
     }
 }
@@ -61,9 +49,9 @@ pub fn leaf_set_run(region: &mut [u64], codes: &[u8], words: &[u64], answers: &m
     if answers.len() < words.len() {
         return REFUSED;
     }
-    let mut i: usize = 0;
+    let mut i = 0;
     while i < words.len() {
-        let end = list_end(i, words.len());
+        let end = (i + LONGEST).min(words.len());
         let done = run_list(region, &codes[i..end], &words[i..end], &mut answers[i..end]);
         if done < end - i {
             return (i + done) as u64;
@@ -79,11 +67,8 @@ pub fn leaf_set_walk(region: &[u64], times: u64, out: &mut [u64]) -> u64 {
         return REFUSED;
     }
     let mut written: u64 = 0;
-    let mut i: u64 = 0;
-    while i < times {
-        let n = words_from(region, 0, out) as u64;
-        written = std::num::wrapping_add_u64(written, n);
-        i += 1;
+    for _ in 0..times {
+        written = written.wrapping_add(words_from(region, 0, out) as u64);
     }
     written
 }

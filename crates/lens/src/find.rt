@@ -6,44 +6,32 @@ ghost use Rattle.lens.specs.Found.{FoundAs, MetAs};
 
 use super::{rank, read};
 
-// Where a prefix's container stands, or that it has none.
-#[derive(Clone, Copy)]
-pub enum Place {
-    At(usize),
-    Nowhere,
-}
-
 // The slot at rank m if it bears p: nothing is said where it does not. The rank may be any number.
-fn meet(region: &[u64], p: usize, m: usize) -> Place
+fn meet(region: &[u64], p: usize, m: usize) -> Option<usize>
     requires { WellFormed region.now }
     ensures { MetAs region.now p result }
 {
     if m >= read::k(region) {
-        return Place::Nowhere;
+        return None;
     }
     let c = read::slot(region, m);
-    if read::prefix(region, c) != p {
-        return Place::Nowhere;
+    if read::prefix(region, c) == p && read::kind(region, c) != 0 {
+        return Some(c);
     }
-    if read::kind(region, c) != 0 {
-        return Place::At(c);
-    }
-    Place::Nowhere
+    None
 }
 
-// The slot of prefix p, looked for from the hint on, a rank where it may stand. The hint may be any number.
-pub fn find(region: &[u64], p: usize, hint: usize) -> Place
+// The slot of prefix p, or that it has none, looked for from the hint on, a rank where it may stand. The hint may be any number.
+pub fn find(region: &[u64], p: usize, hint: usize) -> Option<usize>
     requires well_formed { WellFormed region.now }
     requires p_bound { p < 2 ^ (numbers region.now).P }
     ensures { FoundAs region.now p result }
 {
-    match meet(region, p, hint) {
-        Place::At(c) => Place::At(c),
-        Place::Nowhere => {
-            if !read::bit(region, p) {
-                return Place::Nowhere;
-            }
-            Place::At(rank::slot_of(region, p, hint))
-        }
+    if let Some(c) = meet(region, p, hint) {
+        return Some(c);
     }
+    if !read::bit(region, p) {
+        return None;
+    }
+    Some(rank::slot_of(region, p, hint))
 }

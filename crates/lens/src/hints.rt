@@ -5,55 +5,43 @@ ghost use Rattle.region.specs.WellFormed.{WellFormed};
 ghost use Rattle.lens.specs.Found.{NoneSet};
 
 use super::{rank, read};
-use std::num::{wrapping_add_usize, wrapping_sub_usize};
 
 // Rounds of looks: after as many, most prefixes that are spread evenly are met.
 const ROUNDS: usize = 5;
 
 // Prefixes are below this.
-const SPAN: usize = 16777216;
+const SPAN: usize = 1 << 24;
 
 // A distance with SPAN added to it is below this.
-const TWICE: usize = 33554432;
+const TWICE: usize = 2 * SPAN;
 
 // And a scale below this: two containers for each prefix are never there.
-const FINEST: usize = 33554432;
+const FINEST: usize = 2 * SPAN;
 
 // The place g, or the last of k.
 fn clamped(g: u64, k: usize) -> usize
     requires { 0 < k }
     ensures { result < k }
 {
-    if (g as usize) < k {
-        return g as usize;
-    }
-    k - 1
+    (g as usize).min(k - 1)
 }
 
 // Containers for each prefix, of `pace` among `width`, in parts of SPAN.
 fn scale_of(pace: usize, width: usize) -> usize
     requires { 0 < width }
 {
-    (pace % 131072) * SPAN / width
+    (pace % (1 << 17)) * SPAN / width
 }
 
 // How many places p stands past q at a scale. SPAN is added to the distance, so that it is never below zero.
 fn stride(q: usize, p: usize, scale: usize) -> usize {
-    wrapping_sub_usize(wrapping_add_usize(p, SPAN), q) % TWICE * (scale % FINEST) / SPAN
-}
-
-// 1 if q is below p, and 0 if not.
-fn below(q: usize, p: usize) -> usize {
-    if q < p {
-        return 1;
-    }
-    0
+    p.wrapping_add(SPAN).wrapping_sub(q) % TWICE * (scale % FINEST) / SPAN
 }
 
 // Where to look for p after q was met at place m: a stride on, and at least one place. The stride from a prefix to itself is still.
 fn next(m: usize, q: usize, p: usize, scale: usize, still: usize) -> usize {
-    let far = wrapping_add_usize(stride(q, p, scale), below(q, p));
-    rank::before(wrapping_add_usize(m, far), still)
+    let far = stride(q, p, scale).wrapping_add(usize::from(q < p));
+    m.wrapping_add(far).saturating_sub(still)
 }
 
 // Whether a word's prefix is set. No: none is.
@@ -63,14 +51,9 @@ pub fn any_set(region: &[u64], words: &[u64]) -> bool
 {
     let end = 1usize << read::p(region);
     let shift = read::s(region);
-    let mut i: usize = 0;
-    while i < words.len() {
-        if read::bit(region, (words[i] >> shift) as usize % end) {
-            return true;
-        }
-        i += 1;
-    }
-    false
+    words
+        .iter()
+        .any(|&w| read::bit(region, (w >> shift) as usize % end))
 }
 
 // The least prefix, and how far the greatest is from it: at least 1.
@@ -88,60 +71,48 @@ fn ends(region: &[u64], k: usize) -> Reach
 {
     let low = read::prefix(region, read::slot(region, 0));
     let high = read::prefix(region, read::slot(region, k - 1));
-    if low < high {
-        return Reach {
-            low,
-            width: high - low,
-        };
+    Reach {
+        low,
+        width: high.saturating_sub(low).max(1),
     }
-    Reach { low, width: 1 }
 }
 
 // Where the prefixes of words would stand if all were spread evenly from the least on.
 fn start(region: &[u64], words: &[u64], low: usize, scale: usize, places: &mut [u64; 64])
-    requires well_formed { WellFormed region.now }
-    requires words_len_bound { length words.now ≤ 64 }
+    requires { WellFormed region.now }
 {
     let shift = read::s(region);
     let still = stride(0, 0, scale);
-    let mut i: usize = 0;
-    while i < words.len() {
-        places[i] = next(0, low, (words[i] >> shift) as usize, scale, still) as u64;
-        i += 1;
+    for (place, &w) in places.iter_mut().zip(words) {
+        *place = next(0, low, (w >> shift) as usize, scale, still) as u64;
     }
 }
 
 // One look for each word.
 fn look(region: &[u64], words: &[u64], k: usize, scale: usize, places: &mut [u64; 64])
     requires well_formed { WellFormed region.now }
-    requires words_len_bound { length words.now ≤ 64 }
     requires k_value { k ≡ (numbers region.now).k }
     requires k_nonzero { 0 < k }
 {
     let shift = read::s(region);
     let still = stride(0, 0, scale);
-    let mut i: usize = 0;
-    while i < words.len() {
-        let m = clamped(places[i], k);
+    for (place, &w) in places.iter_mut().zip(words) {
+        let m = clamped(*place, k);
         let q = read::prefix(region, read::slot(region, m));
-        places[i] = next(m, q, (words[i] >> shift) as usize, scale, still) as u64;
-        i += 1;
+        *place = next(m, q, (w >> shift) as usize, scale, still) as u64;
     }
 }
 
 // The places come to, with a look at the first entry of each: entries lie far apart, and side by side the looks wait together. An entry is below 2^40, so the guess stays the place.
 fn fetch(region: &[u64], words: &[u64], k: usize, places: &mut [u64; 64])
     requires well_formed { WellFormed region.now }
-    requires words_len_bound { length words.now ≤ 64 }
     requires k_value { k ≡ (numbers region.now).k }
     requires k_nonzero { 0 < k }
 {
-    let mut i: usize = 0;
-    while i < words.len() {
-        let m = clamped(places[i], k);
+    for place in places.iter_mut().take(words.len()) {
+        let m = clamped(*place, k);
         let first = read::entry(region, read::slot(region, m), 0);
-        places[i] = wrapping_add_usize(m, (first >> 40) as usize) as u64;
-        i += 1;
+        *place = m.wrapping_add((first >> 40) as usize) as u64;
     }
 }
 
@@ -154,11 +125,9 @@ pub fn guess(region: &[u64], words: &[u64], hints: &mut [u64; 64])
     if k <= rank::MANY {
         return;
     }
-    let all = ends(region, k);
-    let width = all.width;
-    start(region, words, all.low, scale_of(k, width), hints);
-    let mut round: usize = 0;
-    while round < ROUNDS {
+    let Reach { low, width } = ends(region, k);
+    start(region, words, low, scale_of(k, width), hints);
+    for round in 0..ROUNDS {
         look(
             region,
             words,
@@ -166,7 +135,6 @@ pub fn guess(region: &[u64], words: &[u64], hints: &mut [u64; 64])
             scale_of(rank::pace_in(round, k), width),
             hints,
         );
-        round += 1;
     }
     fetch(region, words, k, hints);
 }

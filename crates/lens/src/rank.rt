@@ -7,7 +7,6 @@ ghost use Rattle.region.specs.WellFormed.{rank_of, WellFormed};
 ghost use Rattle.lens.specs.Search.{Between};
 
 use super::read;
-use std::num::wrapping_add_usize;
 
 // Looks before halving: from a good hint two or three are enough, and from any other five where prefixes are spread evenly.
 const LOOKS: usize = 6;
@@ -27,37 +26,12 @@ pub struct Window {
 
 // So many containers as d prefixes in a row would have, of k among 2^bits.
 fn share(d: usize, k: usize, bits: usize) -> usize {
-    ((d % 16777216) * (k % 131072)) >> (bits % 64)
+    ((d % (1 << 24)) * (k % (1 << 17))) >> (bits % 64)
 }
 
 // Of how many containers a look counts its stride.
 pub(crate) fn pace_in(look: usize, k: usize) -> usize {
-    if look < WHOLE {
-        return k;
-    }
-    k / 2
-}
-
-// The place g, or the one nearest to it from low to below high.
-fn within(g: usize, low: usize, high: usize) -> usize
-    requires { low < high }
-    ensures { result < high }
-{
-    if g < low {
-        return low;
-    }
-    if g >= high {
-        return high - 1;
-    }
-    g
-}
-
-// The place so many before m, or the first.
-pub(crate) fn before(m: usize, d: usize) -> usize {
-    if d < m {
-        return m - d;
-    }
-    0
+    if look < WHOLE { k } else { k / 2 }
 }
 
 // A window that holds p's rank, narrowed by a few looks: at the hint, and then where p would stand if prefixes were spread evenly.
@@ -71,25 +45,22 @@ fn spread(region: &[u64], p: usize, k: usize, hint: usize) -> Window
     let mut low: usize = 0;
     let mut high = k;
     let mut g = hint;
-    let mut looks: usize = 0;
-    while looks < LOOKS {
+    for looks in 1..=LOOKS {
         if low >= high {
-            return Window { low, high };
+            break;
         }
-        let m = within(g, low, high);
-        let c = read::slot(region, m);
-        let q = read::prefix(region, c);
-        looks += 1;
+        let m = g.clamp(low, high - 1);
+        let q = read::prefix(region, read::slot(region, m));
         if q == p {
             return Window { low: m, high: m };
         }
         if q < p {
             low = m + 1;
-            g = wrapping_add_usize(low, share(p - q, pace_in(looks, k), bits));
-            continue;
+            g = low.wrapping_add(share(p - q, pace_in(looks, k), bits));
+        } else {
+            high = m;
+            g = m.saturating_sub(share(q - p, pace_in(looks, k), bits));
         }
-        high = m;
-        g = before(m, share(q - p, pace_in(looks, k), bits));
     }
     Window { low, high }
 }
@@ -102,9 +73,10 @@ fn first_window(region: &[u64], p: usize, hint: usize) -> Window
 {
     let k = read::k(region);
     if k > MANY {
-        return spread(region, p, k, hint);
+        spread(region, p, k, hint)
+    } else {
+        Window { low: 0, high: k }
     }
-    Window { low: 0, high: k }
 }
 
 // How many prefixes below p are set. The hint, any number, is where it may stand.
@@ -113,9 +85,7 @@ pub fn rank_of(region: &[u64], p: usize, hint: usize) -> usize
     requires p_bound { p < 2 ^ (numbers region.now).P }
     ensures { result ≡ rank_of (numbers region.now) (seen (numbers region.now) region.now) p }
 {
-    let w = first_window(region, p, hint);
-    let mut low = w.low;
-    let mut high = w.high;
+    let Window { mut low, mut high } = first_window(region, p, hint);
     while low < high {
         let middle = low + (high - low) / 2;
         let c = read::slot(region, middle);

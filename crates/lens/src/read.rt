@@ -1,10 +1,12 @@
 // What the words of a region say: each getter is the definition's own function. Where an area starts is read from the header.
 ghost use Rattle.std.specs.Prelude.{◌≡◌, ◌+◌, ◌*◌, ◌^◌, ◌<◌, ◌==◌, slice_index};
+ghost use Rattle.model.specs.Words.{bytes_of};
 ghost use Rattle.region.specs.Geometry.{record_words, strip_words};
 ghost use Rattle.region.specs.Areas.{numbers, records};
 ghost use Rattle.region.specs.Seen.{seen};
 ghost use Rattle.region.specs.WellFormed.{Ready};
 
+use arena::Shape;
 use bitvector::bitmap;
 
 // Prefix bits.
@@ -37,6 +39,18 @@ pub fn n(region: &[u64]) -> usize
     ensures { result ≡ (numbers region.now).N }
 {
     region[4] as usize
+}
+
+// The shape of the node arena: a trie has a level for each byte of a suffix.
+pub fn shape(region: &[u64]) -> Shape
+    requires { Ready region.now }
+    ensures slots { result.slots ≡ (numbers region.now).N }
+    ensures levels { result.b ≡ bytes_of (numbers region.now).S }
+{
+    Shape {
+        slots: n(region),
+        b: s(region).div_ceil(8),
+    }
 }
 
 // Containers in use.
@@ -105,7 +119,7 @@ fn record_word(region: &[u64], c: usize, i: usize) -> u64
     region[start + (4 * c + i)]
 }
 
-// Kind of slot c: 0 free, 1 vector, 2 trie.
+// Kind of slot c: 0 free, 1 vector, 2 trie. It is the word's number and no enum: before the check it may be any.
 pub fn kind(region: &[u64], c: usize) -> u64
     requires ready { Ready region.now }
     requires c_bound { c < (numbers region.now).C }

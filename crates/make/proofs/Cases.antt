@@ -7,7 +7,8 @@ use native.Mathlib.Omega.{arith}
 use lib.Dec.{ltb}
 use lib.ListN.{length, drop}
 use borrow.Author.Tests.{lt-ltb, le-ltb}
-use Rattle.promises.specs.declared.Made.{Made}
+use Rattle.std.specs.Prelude.{Result, Ok, Err}
+use Rattle.promises.specs.declared.MakeRefusal.{MakeRefusal}
 use Rattle.promises.specs.Refusals.{Refusal, when, tell, unless_refused}
 use Rattle.promises.specs.Answers.{made}
 use Rattle.promises.specs.Make.{make_refusals, MakePromise}
@@ -23,10 +24,10 @@ by_tests good short = when (not good) 2 0 ++ when short 3 0
 
 module _ (P S C N : ℕ) (l : List ℕ) where
   -- the promise, where these refusals apply
-  abbrev Told-by : List Refusal → Made → List ℕ → Type 0
+  abbrev Told-by : List Refusal → Result (Unit {0}) MakeRefusal → List ℕ → Type 0
   Told-by rs m l' = (made m ≡ tell rs tt) × (l' ≡ unless_refused rs (fresh P S C N ++ drop (total P C N) l) l)
 
-  promised : (good short : Bool) (m : Made) (l' : List ℕ) → good_numbers P S C N ≡ good → ltb (length l) (total P C N) ≡ short → Told-by (by_tests good short) m l' → MakePromise P S C N l (made m) l'
+  promised : (good short : Bool) (m : Result (Unit {0}) MakeRefusal) (l' : List ℕ) → good_numbers P S C N ≡ good → ltb (length l) (total P C N) ≡ short → Told-by (by_tests good short) m l' → MakePromise P S C N l (made m) l'
   promised good short m l' e f t =
       let r : by_tests good short ≡ make_refusals P S C N l = sym (ap (λ (b : Bool). by_tests b (ltb (length l) (total P C N))) e ∙ ap (by_tests good) f) in
       record {
@@ -34,8 +35,8 @@ module _ (P S C N : ℕ) (l : List ℕ) where
         leaves = t.1 ∙ ap (λ (rs : List Refusal). unless_refused rs (fresh P S C N ++ drop (total P C N) l) l) r;
       }
 
-  pub out_of_range : good_numbers P S C N ≡ false → MakePromise P S C N l (made Made.OutOfRange) l
-  out_of_range e = promised false (ltb (length l) (total P C N)) Made.OutOfRange l e refl (refl, refl)
+  pub out_of_range : good_numbers P S C N ≡ false → MakePromise P S C N l (made (Err MakeRefusal.OutOfRange)) l
+  out_of_range e = promised false (ltb (length l) (total P C N)) (Err MakeRefusal.OutOfRange) l e refl (refl, refl)
 
 module _ {P S C N : ℕ} {g : Geometry} (of : GeometryOf P S C N g) where
   -- what `Geometry::new` and `fresh_into` say, by the numbers themselves
@@ -45,13 +46,13 @@ module _ {P S C N : ℕ} {g : Geometry} (of : GeometryOf P S C N g) where
   pub image-is : (l : List ℕ) {m : List ℕ} → m ≡ fresh g.p g.s g.c g.n ++ drop (total g.p g.c g.n) l → m ≡ fresh P S C N ++ drop (total P C N) l
   image-is l e = rw (← of.p, ← of.s, ← of.c, ← of.n) e
 
-  pub too_short : (l : List ℕ) → good_numbers P S C N ≡ true → length l < g.total → MakePromise P S C N l (made Made.TooShort) l
+  pub too_short : (l : List ℕ) → good_numbers P S C N ≡ true → length l < g.total → MakePromise P S C N l (made (Err MakeRefusal.TooShort)) l
   too_short l e h =
       let t = total-is in
-      promised P S C N l true true Made.TooShort l e (lt-ltb (length l) (total P C N) (omega arith)) (refl, refl)
+      promised P S C N l true true (Err MakeRefusal.TooShort) l e (lt-ltb (length l) (total P C N) (omega arith)) (refl, refl)
 
   pub image : (l m : List ℕ) → good_numbers P S C N ≡ true → g.total ≤ length l → m ≡ fresh g.p g.s g.c g.n ++ drop (total g.p g.c g.n) l
-      → MakePromise P S C N l (made Made.Done) m
+      → MakePromise P S C N l (made (Ok tt)) m
   image l m e h w =
       let t = total-is in
-      promised P S C N l true false Made.Done m e (le-ltb (length l) (total P C N) (omega arith)) (refl, image-is l w)
+      promised P S C N l true false (Ok tt) m e (le-ltb (length l) (total P C N) (omega arith)) (refl, image-is l w)

@@ -1,11 +1,9 @@
 -- A list d that is overwritten from its front: word by word toward a target t, or part by part as `&mut d[a..e]` is lent and comes back. Assumes nothing.
 use mathlib.Core.Path.{◌≡◌, refl, sym, ap, ◌∙◌}
-use mathlib.Core.List.{List, [], ◌∷◌, ◌++◌, append-nil, append_assoc}
-use Prim.Native.Nat.{ℕ, zero, suc, ◌+◌, ◌-◌, ◌≤◌, ◌<◌}
-use native.Mathlib.Nat.{not-suc-le-zero, le_of_suc-le-suc}
-use native.Mathlib.Numerals.{add-one}
+use mathlib.Core.List.{List, [], ◌++◌, append-nil, append_assoc}
+use Prim.Native.Nat.{ℕ, ◌+◌, ◌-◌, ◌≤◌}
 use native.Mathlib.Omega.{arith}
-use lib.ListN.{length, take, drop, get_or, set, length-append, length-drop}
+use lib.ListN.{length, take, drop, length-append, length-drop}
 use lib.Seq.{take_all, take_at, drop_at, drop-drop, drop-length}
 use borrow.Rule.Slice.PartMut.{put_mid, mid_of, mid_len}
 
@@ -13,16 +11,6 @@ module _ {A : Type 0} where
   -- the target's first i words, and d's after them
   abbrev pub toward : List A → List A → ℕ → List A
   toward t d i = take i t ++ drop i d
-
-  toward-suc : (z : A) (t d : List A) (i : ℕ) → i < length t → i < length d → set (toward t d i) i (get_or t i z) ≡ toward t d (suc i)
-  toward-suc z [] d i h k = absurd (not-suc-le-zero h)
-  toward-suc z (x ∷ t) [] i h k = absurd (not-suc-le-zero k)
-  toward-suc z (x ∷ t) (y ∷ d) zero h k = refl
-  toward-suc z (x ∷ t) (y ∷ d) (suc i) h k = ap (λ (r : List A). x ∷ r) (toward-suc z t d i (le_of_suc-le-suc h) (le_of_suc-le-suc k))
-
-  -- a store at i of what the target has there
-  pub toward-more : (z : A) (t d m : List A) (i : ℕ) (v : A) → m ≡ toward t d i → i < length t → i < length d → v ≡ get_or t i z → set m i v ≡ toward t d (i + 1)
-  toward-more z t d m i v e h k w = rw (e, w, add-one) (toward-suc z t d i h k)
 
   pub toward-all : (t d : List A) (n : ℕ) → length t ≡ n → length d ≡ n → toward t d n ≡ t
   toward-all t d n h k = ap (λ (i : ℕ). take n t ++ drop i d) (sym k) ∙ rw (drop-length d, append-nil, take_all n t (omega arith))

@@ -42,12 +42,16 @@ blank a t w k = rw mul-zero (sym (blocks-replicate a w k))
 pub run_end : (w n left k : ℕ) → left ≤ n → k ≤ left → w * (n - left) + w * k ≡ w * (n - (left - k))
 run_end w n left k h l = let e : n - left + k ≡ n - (left - k) = omega arith in sym (mul-add w (n - left) k) ∙ ap (λ (x : ℕ). w * x) e
 
-pub run_fits : (w n left k : ℕ) → left ≤ n → k ≤ left → w * (n - left) + w * k ≤ w * n
+run_fits : (w n left k : ℕ) → left ≤ n → k ≤ left → w * (n - left) + w * k ≤ w * n
 run_fits w n left k h l = rw (run_end w n left k h l) (mul-le-mul_left w (omega arith))
 
--- word `at` of block i is inside
-pub word_fits : (w k i at : ℕ) → i < k → at < w → w * i + at < w * k
-word_fits w k i at h l = let z : w * suc i ≤ w * k = mul-le-mul_left w h in let e : w * suc i ≡ w * i + w = mul-suc w i in omega arith
+-- in a slice as long as all the blocks a run from `from` on ends inside
+pub run-inside : (w n left k from long : ℕ) → left ≤ n → k ≤ left → from ≡ w * (n - left) → long ≡ w * n → from + w * k ≤ long
+run-inside w n left k from long h l f e = let z = run_fits w n left k h l in omega arith
+
+-- and so is word `at` of block i
+pub word-inside : (w k i at long : ℕ) → i < k → at < w → long ≡ w * k → w * i + at < long
+word-inside w k i at long h l e = let z : w * suc i ≤ w * k = mul-le-mul_left w h in let s : w * suc i ≡ w * i + w = mul-suc w i in omega arith
 
 module _ {A : Type 0} (f : ℕ → List A) (w : ℕ) (width : (n : ℕ) → length (f n) ≡ w) where
   before-fits : (i n : ℕ) → i ≤ n → w * i ≤ length (blocks f n)

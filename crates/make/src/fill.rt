@@ -10,39 +10,18 @@ const RUN: usize = 32;
 pub fn zero(s: &mut [u64])
     ensures { s.new ≡ zeros (length s.old) }
 {
-    let mut i = 0;
-    while i < s.len() {
-        s[i] = 0;
-        i += 1;
-    }
+    s.fill(0);
 }
 
-// The i-th number from the top down.
-fn down(top: usize, i: usize) -> u64
-    requires { i < top }
-    ensures { result ≡ top - 1 - i }
-{
-    (top - 1 - i) as u64
-}
-
-// k blocks of w words, all 0 but word `at`, which holds top - 1, top - 2, ..: zeroed at once, since that is the fast way, then marked.
+// k blocks of w words, all 0 but word `at`, which holds top - 1, top - 2, ..: zeroed at once, since that is the fast way, then marked. By place: of `chunks_mut` only the length is known afterwards.
 fn write_run(s: &mut [u64], w: usize, at: usize, k: usize, top: usize)
     requires { (length s.old ≡ w * k) × (at < w) × (k ≤ top) }
     ensures { s.new ≡ blocks (λ i. marked w at (top - k + i)) k }
 {
     zero(s);
-    let mut i = 0;
-    while i < k {
-        s[w * i + at] = down(top, i);
-        i += 1;
+    for i in 0..k {
+        s[w * i + at] = (top - 1 - i) as u64;
     }
-}
-
-fn least(a: usize, b: usize) -> usize
-    requires { (0 < a) × (0 < b) }
-    ensures { (0 < result) × (result ≤ a) × (result ≤ b) }
-{
-    if a < b { a } else { b }
 }
 
 // n blocks of w words, all 0 but word `at`, which holds n - 1 down to 0, run by run.
@@ -53,7 +32,7 @@ pub fn write_blocks(s: &mut [u64], w: usize, at: usize, n: usize)
     let mut left = n;
     let mut from = 0;
     while 0 < left {
-        let k = least(left, RUN);
+        let k = left.min(RUN);
         let to = from + w * k;
         write_run(&mut s[from..to], w, at, k, left);
         from = to;

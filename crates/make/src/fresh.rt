@@ -17,20 +17,24 @@ fn fill_header(h: &mut [u64], g: Geometry)
     requires { (length h.old ≡ 16) × Laid g }
     ensures { h.new ≡ fresh_header g.p g.s g.c g.n }
 {
-    zero(h);
-    h[0] = FORM;
-    h[1] = g.p;
-    h[2] = g.s;
-    h[3] = g.c;
-    h[4] = g.n;
-    h[8] = HEADER_WORDS as u64;
-    h[9] = g.ranks as u64;
-    h[10] = g.stack as u64;
-    h[11] = g.records as u64;
-    h[12] = g.entries as u64;
-    h[13] = g.node_stack as u64;
-    h[14] = g.nodes as u64;
-    h[15] = g.total as u64;
+    h.copy_from_slice(&[
+        FORM,
+        g.p,
+        g.s,
+        g.c,
+        g.n,
+        0,
+        0,
+        0,
+        HEADER_WORDS as u64,
+        g.ranks as u64,
+        g.stack as u64,
+        g.records as u64,
+        g.entries as u64,
+        g.node_stack as u64,
+        g.nodes as u64,
+        g.total as u64,
+    ]);
 }
 
 // Rank table, free stack, records, suffix entries: 1 + 1 + 4 + 1,024 words for each container.

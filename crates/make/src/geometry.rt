@@ -1,6 +1,5 @@
 // The numbers of a region and where its areas lie.
 ghost use Rattle.std.specs.Prelude.{true, ◌≡◌, ◌≤◌};
-ghost use Rattle.lists.specs.Lists.{between as is_between};
 ghost use Rattle.region.specs.Ranges.{good_numbers};
 ghost use Rattle.region.specs.Geometry.{bitmap_words};
 ghost use Rattle.make.specs.Laid.{GeometryOf};
@@ -16,7 +15,7 @@ pub const STRIP_WORDS: usize = 1024;
 pub const NODE_WORDS: usize = 264;
 
 // The numbers, the first word of each area after the bitmap (which follows the header), and the length of the whole.
-#[derive(Clone, Copy)]
+#[derive(Clone, Copy, Debug, PartialEq, Eq)]
 pub struct Geometry {
     pub p: u64,
     pub s: u64,
@@ -33,6 +32,7 @@ pub struct Geometry {
 
 impl Geometry {
     // The ranges are tested before (`good_numbers`), so no sum here can wrap.
+    #[tactic(auto, using(crate::proofs::Ranges::ranges))]
     pub fn new(p: u64, s: u64, c: u64, n: u64) -> Geometry
         requires { good_numbers p s c n ≡ true }
         ensures { GeometryOf p s c n result }
@@ -66,31 +66,12 @@ pub fn bitmap_words(p: u64) -> usize
     requires { p ≤ 24 }
     ensures { (result ≡ bitmap_words p) × (result ≤ 262144) }
 {
-    let words = (1usize << p) / 64;
-    if words < 1 { 1 } else { words }
-}
-
-fn between(low: u64, high: u64, x: u64) -> bool
-    ensures { result ≡ is_between low high x }
-{
-    if x < low {
-        return false;
-    }
-    x <= high
+    ((1usize << p) / 64).max(1)
 }
 
 // Whether every number is in its range.
 pub fn good_numbers(p: u64, s: u64, c: u64, n: u64) -> bool
     ensures { result ≡ good_numbers p s c n }
 {
-    if !between(1, 24, p) {
-        return false;
-    }
-    if !between(1, 40, s) {
-        return false;
-    }
-    if !between(1, 65536, c) {
-        return false;
-    }
-    between(0, 1048576, n)
+    (1..=24).contains(&p) && (1..=40).contains(&s) && (1..=65536).contains(&c) && n <= 1048576
 }

@@ -1,25 +1,28 @@
-// What each entry answers, as an enum of its own. specs/Answers gives document 01's number and values for each case.
-// Make a region.
+// Why each entry refuses, as an enum of its own, and the fields of a preview key. specs/Answers gives the number and the place of each refusal.
 #![tactic(auto)]
 
-#[derive(Clone, Copy)]
-pub enum Made {
-    Done,
+mod display;
+
+ghost use Rattle.std.specs.Prelude.{◌≡◌};
+ghost use Rattle.promises.specs.declared.ListRefusal.{ListRefusal};
+ghost use Rattle.promises.specs.declared.AskRefusal.{AskRefusal};
+ghost use Rattle.promises.specs.declared.WalkRefusal.{WalkRefusal};
+ghost use Rattle.promises.specs.declared.UnpackRefusal.{UnpackRefusal};
+
+// Making a region.
+#[derive(Clone, Copy, Debug, PartialEq, Eq)]
+pub enum MakeRefusal {
     OutOfRange,
     TooShort,
 }
 
-// Check a region.
-#[derive(Clone, Copy)]
-pub enum Checked {
-    WellFormed,
-    Malformed,
-}
+// Checking a region: it is not well formed.
+#[derive(Clone, Copy, Debug, PartialEq, Eq)]
+pub struct Malformed;
 
-// Run a command list. A refusal holds its place where that is not 0.
-#[derive(Clone, Copy)]
-pub enum Listed {
-    Done,
+// Running a command list; with the place where that is not 0.
+#[derive(Clone, Copy, Debug, PartialEq, Eq)]
+pub enum ListRefusal {
     Malformed,
     BadLengths,
     UnknownCode(usize),
@@ -27,35 +30,24 @@ pub enum Listed {
     NoRoom(usize),
 }
 
-// Ask whether all words of a list are members.
-#[derive(Clone, Copy)]
-pub enum Asked {
-    All,
-    NotAll,
+// Asking whether all words of a list are members.
+#[derive(Clone, Copy, Debug, PartialEq, Eq)]
+pub enum AskRefusal {
     Malformed,
     TooMany,
     WordTooLarge(usize),
 }
 
-// Walk from a place: how many words were written.
-#[derive(Clone, Copy)]
-pub enum Walked {
-    Wrote(usize),
+// Walking from a place.
+#[derive(Clone, Copy, Debug, PartialEq, Eq)]
+pub enum WalkRefusal {
     Malformed,
     StartTooFar,
 }
 
-// One step of a walker: the next word, or none.
-#[derive(Clone, Copy)]
-pub enum Stepped {
-    Word(u64),
-    End,
-}
-
-// Combine two sets into a third. Malformed holds which of the three regions is the first bad one.
-#[derive(Clone, Copy)]
-pub enum Combined {
-    Done,
+// Combining two sets into a third. Malformed holds which of the three regions is the first bad one.
+#[derive(Clone, Copy, Debug, PartialEq, Eq)]
+pub enum CombineRefusal {
     Malformed(usize),
     UnknownCode,
     SetsDiffer,
@@ -63,22 +55,22 @@ pub enum Combined {
 }
 
 // The fields of a preview key, each of a type of its own, so that none is passed for another by accident.
-#[derive(Clone, Copy)]
+#[derive(Clone, Copy, Debug, PartialEq, Eq)]
 pub struct Card(pub u64);
 
-#[derive(Clone, Copy)]
+#[derive(Clone, Copy, Debug, PartialEq, Eq)]
 pub struct Rollover(pub u64);
 
-#[derive(Clone, Copy)]
+#[derive(Clone, Copy, Debug, PartialEq, Eq)]
 pub struct Folder(pub u64);
 
-#[derive(Clone, Copy)]
+#[derive(Clone, Copy, Debug, PartialEq, Eq)]
 pub struct Frame(pub u64);
 
-#[derive(Clone, Copy)]
+#[derive(Clone, Copy, Debug, PartialEq, Eq)]
 pub struct Kind(pub u64);
 
-#[derive(Clone, Copy)]
+#[derive(Clone, Copy, Debug, PartialEq, Eq)]
 pub struct Fields {
     pub card: Card,
     pub rollover: Rollover,
@@ -87,17 +79,45 @@ pub struct Fields {
     pub kind: Kind,
 }
 
-// Pack a preview key. FieldOutOfRange holds the first bad field.
-#[derive(Clone, Copy)]
-pub enum Packed {
-    Key(u64),
+// Packing a preview key: which field is the first bad one.
+#[derive(Clone, Copy, Debug, PartialEq, Eq)]
+pub struct FieldOutOfRange(pub usize);
+
+// Unpacking a preview key.
+#[derive(Clone, Copy, Debug, PartialEq, Eq)]
+pub enum UnpackRefusal {
+    WordTooLarge,
     FieldOutOfRange(usize),
 }
 
-// Unpack a preview key.
-#[derive(Clone, Copy)]
-pub enum Unpacked {
-    Fields(Fields),
-    WordTooLarge,
-    FieldOutOfRange(usize),
+impl From<Malformed> for ListRefusal {
+    ghost from_gives = { λ _ r. r ≡ ListRefusal.Malformed };
+
+    fn from(_m: Malformed) -> ListRefusal {
+        ListRefusal::Malformed
+    }
+}
+
+impl From<Malformed> for AskRefusal {
+    ghost from_gives = { λ _ r. r ≡ AskRefusal.Malformed };
+
+    fn from(_m: Malformed) -> AskRefusal {
+        AskRefusal::Malformed
+    }
+}
+
+impl From<Malformed> for WalkRefusal {
+    ghost from_gives = { λ _ r. r ≡ WalkRefusal.Malformed };
+
+    fn from(_m: Malformed) -> WalkRefusal {
+        WalkRefusal::Malformed
+    }
+}
+
+impl From<FieldOutOfRange> for UnpackRefusal {
+    ghost from_gives = { λ f r. r ≡ UnpackRefusal.FieldOutOfRange f.0 };
+
+    fn from(f: FieldOutOfRange) -> UnpackRefusal {
+        UnpackRefusal::FieldOutOfRange(f.0)
+    }
 }

@@ -21,3 +21,11 @@ pub fn fill<R: Read>(input: &mut R, buffer: &mut [u8]) -> io::Result<usize>
     }
     Ok(done)
 }
+
+// Reads the input to its end, or its first `most` bytes.
+pub fn read<R: Input + AllocGlobal>(rt: &R, most: usize) -> io::Result<Vec<u8>> {
+    let mut text = vec![in rt.alloc(); 0u8; most]?;
+    let n = fill(&mut rt.reader(), &mut text)?;
+    text.truncate(n);
+    Ok(text)
+}

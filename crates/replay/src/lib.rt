@@ -4,6 +4,6 @@
 pub mod input;
 pub mod lines;
 pub mod runs;
-pub mod say;
+pub mod stop;
 pub mod tally;
 pub mod walks;

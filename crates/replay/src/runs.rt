@@ -1,116 +1,91 @@
 // Runs of words, and the lines of commands, which lists.txt and trie.txt have in common.
-ghost use Rattle.std.specs.Prelude.{◌≤◌};
+ghost use Rattle.std.specs.Prelude.{◌≡◌, ◌≤◌, IfOk, vec_len};
 
-// What a line of commands says: `many` commands of one code, on words each `step` after the one before.
+use super::lines::MOST;
+use super::stop::Stop;
+use std::alloc::{AllocError, Global};
+
+#[derive(Clone, Copy, Debug, PartialEq, Eq)]
+pub enum Action {
+    Lookup,
+    Insert,
+    Remove,
+}
+
+// What a line of commands says: `many` commands of one action, on words each `step` after the one before, and the answers that are recorded.
 #[derive(Clone, Copy)]
-pub struct Run {
-    // 0 lookup, 1 insert, 2 remove
-    pub code: u8,
+pub struct Run<'a> {
+    pub action: Action,
     pub start: u64,
     pub step: u64,
-    // no more than 4,096
-    pub many: usize,
-    // how many numbers stand before the answers
-    pub given: usize,
+    pub many: u64,
+    pub recorded: &'a [u64],
 }
 
-#[derive(Clone, Copy)]
-pub enum Commands {
-    Are(Run),
-    Unknown,
-    Bad,
+impl Action {
+    // The code of the command in a list.
+    pub fn code(self) -> u8 {
+        match self {
+            Action::Lookup => 0,
+            Action::Insert => 1,
+            Action::Remove => 2,
+        }
+    }
 }
 
-fn single(code: u8, line: &[u64], answers: usize) -> Commands {
-    if line.len() < 2 {
-        return Commands::Bad;
+fn action_of(op: u64) -> Result<Action, Stop> {
+    match op {
+        10 | 20 => Ok(Action::Lookup),
+        11 | 21 => Ok(Action::Insert),
+        12 | 22 => Ok(Action::Remove),
+        _ => Err(Stop::Unknown(op)),
     }
-    if line.len() - 2 != answers {
-        return Commands::Bad;
-    }
-    Commands::Are(Run {
-        code,
-        start: line[1],
-        step: 0,
-        many: 1,
-        given: 2,
-    })
-}
-
-fn several(code: u8, line: &[u64], answers: usize) -> Commands {
-    if line.len() < 4 {
-        return Commands::Bad;
-    }
-    if line.len() - 4 != answers {
-        return Commands::Bad;
-    }
-    let many = line[3];
-    if many > 4096 {
-        return Commands::Bad;
-    }
-    Commands::Are(Run {
-        code,
-        start: line[1],
-        step: line[2],
-        many: many as usize,
-        given: 4,
-    })
 }
 
 // The commands of a line that ends with so many answers.
-pub fn commands_of(line: &[u64], answers: usize) -> Commands {
-    if line.len() == 0 {
-        return Commands::Bad;
+pub fn commands_of(line: &[u64], answers: usize) -> Result<Run<'_>, Stop> {
+    let op = *line.first().ok_or(Stop::BadNumbers)?;
+    let action = action_of(op)?;
+    let (start, step, many, recorded) = match line {
+        [10..=12, word, recorded @ ..] => (*word, 0, 1, recorded),
+        [20..=22, start, step, many @ 0..=4096, recorded @ ..] => (*start, *step, *many, recorded),
+        _ => return Err(Stop::BadNumbers),
+    };
+    if recorded.len() != answers {
+        return Err(Stop::BadNumbers);
     }
-    match line[0] {
-        10 => single(0, line, answers),
-        11 => single(1, line, answers),
-        12 => single(2, line, answers),
-        20 => several(0, line, answers),
-        21 => several(1, line, answers),
-        22 => several(2, line, answers),
-        _ => Commands::Unknown,
-    }
+    Ok(Run {
+        action,
+        start,
+        step,
+        many,
+        recorded,
+    })
 }
 
-// Words each `step` after the one before.
-pub fn fill(words: &mut [u64], start: u64, step: u64) {
-    let mut w = start;
-    let mut i = 0;
-    while i < words.len() {
-        words[i] = w;
-        w = std::num::wrapping_add_u64(w, step);
-        i += 1;
-    }
-}
-
-// The words of the runs, one behind the other, and how many they are; 4,096 where there are as many or more, or a run has none.
-pub fn spread(runs: &[u64], words: &mut [u64; 4096]) -> usize
-    ensures { result ≤ 4096 }
+// So many words, each `step` after the one before.
+pub fn words_of(alloc: Global, start: u64, step: u64, many: u64) -> Result<Vec<u64>, AllocError>
+    ensures { IfOk result (λ v. vec_len v ≡ many) }
 {
-    let mut many: usize = 0;
-    let mut at: usize = 0;
-    // the words of the run that are left, and the next of them
-    let mut left: u64 = 0;
-    let mut w: u64 = 0;
-    let mut step: u64 = 0;
-    while many < 4096 {
-        if left == 0 {
-            if runs.len() - at < 3 {
-                return many;
-            }
-            w = runs[at];
-            step = runs[at + 1];
-            left = runs[at + 2];
-            at += 3;
+    (0..many)
+        .map(|i| start.wrapping_add(step.wrapping_mul(i)))
+        .collect(alloc)
+}
+
+// The words of the runs, one behind the other. They are fewer than 4,096, and each run has some.
+pub fn spread(alloc: Global, runs: &[u64]) -> Result<Vec<u64>, Stop>
+    ensures { IfOk result (λ v. vec_len v ≤ 4096) }
+{
+    let mut words = Vec::new(alloc);
+    for run in runs.chunks_exact(3) {
+        let &[start, step, many] = run else {
+            return Err(Stop::BadNumbers);
+        };
+        let after = many.saturating_add(words.len() as u64);
+        if many == 0 || after >= MOST as u64 {
+            return Err(Stop::BadNumbers);
         }
-        if left == 0 {
-            return 4096;
-        }
-        words[many] = w;
-        w = std::num::wrapping_add_u64(w, step);
-        left -= 1;
-        many += 1;
+        words.extend_from_slice(&words_of(alloc, start, step, many)?)?;
     }
-    many
+    Ok(words)
 }

@@ -1,253 +1,178 @@
-// Where a replay stands, and how it goes on: over comments, at a fault, at the last line, and behind a line that was carried out.
-ghost use Rattle.std.specs.Prelude.{◌≤◌, IfOk};
+// Where a replay stands: over which lines it is, and how many were as recorded.
+ghost use Rattle.std.specs.Prelude.{◌≤◌, IfOk, IfSome, vec_len};
 
-use super::lines::Kind;
-use super::{lines, say};
-use std::io;
+use super::lines;
+use super::stop::Stop;
+use std::alloc::Global;
+use std::collections::BTreeMap;
+use std::{fmt, io};
 
 // The last line is this operation and how many lines came before it.
 const LAST: u64 = 99;
 
-#[derive(Clone, Copy)]
-pub struct State {
-    // the place in the text
-    pub at: usize,
+#[derive(Drop)]
+pub struct Tally {
+    alloc: Global,
     // the number of the line read last, comments counted
-    pub line: u64,
+    line: u64,
     // how many lines there were to carry out, and how often what came was not as recorded
-    pub lines: u64,
-    pub wrong: u64,
+    lines: u64,
+    wrong: u64,
     // the last line was read and is right
-    pub closed: bool,
-    // there is more to read
-    pub going: bool,
+    closed: bool,
+    // how many lines of a row were as recorded
+    rows: BTreeMap<u64, u64>,
 }
 
-// A line to carry out, with `many` numbers, or none where `many` is 0.
+// Numbers, each with a space before it.
 #[derive(Clone, Copy)]
-pub struct Took {
-    pub state: State,
-    pub many: usize,
-}
+struct Spaced<'a>(&'a [u64]);
 
-// What became of a line: the line's first `given` numbers are the operation and what it is given, and it came to `many` answers.
-#[derive(Clone, Copy)]
-pub enum Done {
-    Answered { given: usize, many: usize },
-    Unknown,
-    BadNumbers,
-}
-
-// One more, where there is one.
-fn up(x: u64) -> u64 {
-    if x < u64::MAX { x + 1 } else { x }
-}
-
-fn same(a: &[u64], b: &[u64]) -> bool {
-    if a.len() != b.len() {
-        return false;
-    }
-    let mut i = 0;
-    while i < a.len() {
-        if a[i] != b[i] {
-            return false;
+impl fmt::Display for Spaced<'_> {
+    fn fmt<W: fmt::Write>(&self, f: &mut fmt::Formatter<W>) -> fmt::Result {
+        for number in self.0 {
+            write!(f, " {number}")?;
         }
-        i += 1;
+        Ok(())
     }
-    true
 }
 
-impl State {
-    pub fn new() -> Self {
+impl Tally {
+    pub fn new(alloc: Global) -> Self {
         Self {
-            at: 0,
+            alloc,
             line: 0,
             lines: 0,
             wrong: 0,
             closed: false,
-            going: true,
+            rows: BTreeMap::new(alloc),
         }
     }
 
-    fn to(mut self, next: usize) -> Self {
-        self.at = next;
-        self
+    // Says something of the line read last.
+    pub fn say(&self, rt: &impl Print, what: impl fmt::Display + Drop) -> io::Result<()> {
+        println!(rt; "line {}: {what}", self.line)
     }
 
-    fn counted(mut self) -> Self {
-        self.lines = up(self.lines);
-        self
-    }
-
-    // Says why the replay ends here, before the last line.
-    fn stopped(mut self, rt: &impl Print, why: &[u8]) -> io::Result<Self> {
-        say::line(rt, self.line)?;
-        say::text(rt, why)?;
-        say::text(rt, b"\n")?;
-        self.closed = false;
-        self.going = false;
-        Ok(self)
-    }
-
-    fn unknown(mut self, rt: &impl Print, operation: u64) -> io::Result<Self> {
-        say::line(rt, self.line)?;
-        say::text(rt, b"unknown operation ")?;
-        say::number(rt, operation)?;
-        say::text(rt, b"\n")?;
-        self.going = false;
-        Ok(self)
-    }
-
-    fn at_end(mut self, rt: &impl Print) -> io::Result<Self> {
-        if self.closed {
-            self.going = false;
-            return Ok(self);
-        }
-        self.stopped(rt, b"the file was cut: it ends with no line `99 n`")
-    }
-
-    fn at_last(mut self, rt: &impl Print, many: usize, n: u64) -> io::Result<Self> {
-        if many != 2 {
-            return self.stopped(rt, b"the line `99 n` has not two numbers");
-        }
-        if n != self.lines {
-            say::line(rt, self.line)?;
-            say::text(rt, b"the last line says ")?;
-            say::number(rt, n)?;
-            say::text(rt, b" lines, and ")?;
-            say::number(rt, self.lines)?;
-            say::text(rt, b" came before it\n")?;
-            self.going = false;
-            return Ok(self);
-        }
-        self.closed = true;
-        Ok(self)
-    }
-
-    // Says the first answers that are not as recorded, and counts them all.
-    fn compared(mut self, rt: &impl Print, expected: &[u64], came: &[u64]) -> io::Result<Self> {
-        if same(expected, came) {
-            return Ok(self);
-        }
+    // Says what of a line did not come as recorded, where it is the first.
+    pub fn say_first(&self, rt: &impl Print, what: impl fmt::Display + Drop) -> io::Result<()> {
         if self.wrong == 0 {
-            say::line(rt, self.line)?;
-            say::text(rt, b"expected")?;
-            say::numbers(rt, expected)?;
-            say::text(rt, b", came")?;
-            say::numbers(rt, came)?;
-            say::text(rt, b"\n")?;
+            self.say(rt, what)?;
         }
-        self.wrong = up(self.wrong);
-        Ok(self)
+        Ok(())
     }
 
-    // The same, but for so many lines that were passed over.
-    pub fn without(mut self, passed: u64) -> Self {
-        if passed <= self.lines {
-            self.lines -= passed;
+    // The numbers of the next line, if it is one to carry out.
+    pub fn take(&mut self, line: &[u8]) -> Result<Option<Vec<u64>>, Stop>
+        ensures { IfOk result (λ o. IfSome o (λ v. vec_len v ≤ 4096)) }
+    {
+        self.line = self.line.saturating_add(1);
+        if line.first() == Some(&b'#') {
+            return Ok(None);
         }
-        self
+        let numbers = lines::numbers(self.alloc, line)?;
+        match numbers.as_slice() {
+            _ if self.closed => Err(Stop::BehindLast),
+            [LAST, said] if *said == self.lines => {
+                self.closed = true;
+                Ok(None)
+            }
+            [LAST, said] => Err(Stop::LastCount {
+                said: *said,
+                came: self.lines,
+            }),
+            [LAST, ..] => Err(Stop::LastNumbers),
+            _ => {
+                self.lines = self.lines.saturating_add(1);
+                Ok(Some(numbers))
+            }
+        }
     }
 
-    // What the whole comes to.
-    pub fn verdict(self, rt: &impl Print) -> io::Result<()> {
+    // The text is over.
+    pub fn at_end(&mut self) -> Result<(), Stop> {
+        self.line = self.line.saturating_add(1);
+        if self.closed {
+            Ok(())
+        } else {
+            Err(Stop::NoLastLine)
+        }
+    }
+
+    // Compares what came with what the line says. Where it is the same, the row's count goes up.
+    pub fn judge(
+        &mut self,
+        rt: &impl Print,
+        row: u64,
+        expected: &[u64],
+        came: &[u64],
+    ) -> Result<(), Stop> {
+        if expected == came {
+            let many = self.rows.entry(row)?.or_insert(0);
+            *many = many.saturating_add(1);
+            return Ok(());
+        }
+        let expected = Spaced(expected);
+        let came = Spaced(came);
+        self.say_first(rt, format_args!("expected{expected}, came{came}"))?;
+        self.wrong = self.wrong.saturating_add(1);
+        Ok(())
+    }
+
+    // How many lines of a row were as recorded.
+    pub fn row(&self, row: u64) -> u64 {
+        self.rows.get(&row).copied().unwrap_or(0)
+    }
+
+    // The rows of the table: an operation, and how many of its lines were as recorded.
+    pub fn say_rows(&self, rt: &impl Print, rows: &[(&str, u64)]) -> io::Result<()> {
+        for (name, row) in rows {
+            println!(rt; "  {name}: {} as recorded", self.row(*row))?;
+        }
+        Ok(())
+    }
+
+    // The part of the table that lists.txt and trie.txt have in common: the cases, and the commands in them.
+    pub fn say_commands(&self, rt: &impl Print) -> io::Result<()> {
+        self.say_rows(
+            rt,
+            &[
+                ("case", 0),
+                ("lookup", 10),
+                ("insert", 11),
+                ("remove", 12),
+                ("lookup of a run", 20),
+                ("insert of a run", 21),
+                ("remove of a run", 22),
+            ],
+        )
+    }
+
+    // Says why the replay ended early, if it did. Yes, where it came to the last line.
+    pub fn came_to_end(&self, rt: &impl Print, end: Result<(), Stop>) -> io::Result<bool> {
+        match end {
+            Ok(()) => Ok(true),
+            Err(Stop::Io(error)) => Err(error),
+            Err(Stop::Memory(error)) => Err(io::Error::from(error)),
+            Err(stop) => {
+                self.say(rt, stop)?;
+                Ok(false)
+            }
+        }
+    }
+
+    // What the whole comes to, but for so many lines that were passed over.
+    pub fn verdict(&self, rt: &impl Print, to_the_end: bool, passed: u64) -> io::Result<()> {
+        let lines = self.lines.saturating_sub(passed);
         if self.wrong > 0 {
-            say::text(rt, b"NOT AS RECORDED: lines ")?;
-            say::number(rt, self.lines)?;
-            say::text(rt, b", wrong answers ")?;
-            say::number(rt, self.wrong)?;
-            return say::text(rt, b"\n");
+            println!(rt;
+                "  NOT AS RECORDED: lines {lines}, wrong answers {}",
+                self.wrong
+            )
+        } else if to_the_end {
+            println!(rt; "  all {lines} lines as recorded")
+        } else {
+            println!(rt; "  NOT ALL WAS REPLAYED")
         }
-        if self.going {
-            return say::text(rt, b"NOT ALL WAS REPLAYED\n");
-        }
-        if !self.closed {
-            return say::text(rt, b"NOT ALL WAS REPLAYED\n");
-        }
-        say::text(rt, b"all ")?;
-        say::number(rt, self.lines)?;
-        say::text(rt, b" lines as recorded\n")
-    }
-}
-
-fn nothing(s: State) -> Took
-    ensures { result.many ≤ 4096 }
-{
-    Took { state: s, many: 0 }
-}
-
-// Takes the next line.
-pub fn take(
-    rt: &impl Print,
-    text: &[u8],
-    before: State,
-    numbers: &mut [u64; 4096],
-) -> io::Result<Took>
-    ensures { IfOk result (λ took. took.many ≤ 4096) }
-{
-    let mut s = before;
-    let at = s.at;
-    s.line = up(s.line);
-    let l = lines::read(text, at, numbers);
-    let kind = l.kind;
-    let many = l.many;
-    let s = s.to(l.next);
-    let after = match kind {
-        Kind::Numbers => {
-            if s.closed {
-                s.stopped(rt, b"there is more behind the last line")?
-            } else if numbers[0] == LAST {
-                s.at_last(rt, many, numbers[1])?
-            } else {
-                return Ok(Took {
-                    state: s.counted(),
-                    many,
-                });
-            }
-        }
-        Kind::Comment => s,
-        Kind::End => s.at_end(rt)?,
-        Kind::Cut => s.stopped(rt, b"the file was cut: it ends in this line")?,
-        Kind::TooLarge => s.stopped(rt, b"a number does not fit 64 bits")?,
-        Kind::TooLong => s.stopped(rt, b"more than 4,096 numbers")?,
-        Kind::Strange => s.stopped(rt, b"a byte that has no place in a line of numbers")?,
-    };
-    Ok(nothing(after))
-}
-
-// Compares what came with what the line says. Where it is the same, the row's count goes up.
-pub fn judge(
-    rt: &impl Print,
-    s: State,
-    line: &[u64],
-    row: u64,
-    done: Done,
-    came: &[u64; 4096],
-    counts: &mut [u64; 100],
-) -> io::Result<State> {
-    match done {
-        Done::Unknown => s.unknown(rt, row),
-        Done::BadNumbers => s.stopped(rt, b"too few numbers, or one outside its range"),
-        Done::Answered { given, many } => {
-            if line.len() < given {
-                return s.stopped(rt, b"too few numbers");
-            }
-            if 4096 < many {
-                return s.stopped(rt, b"more than 4,096 answers");
-            }
-            let answers = &came[..];
-            let after = s.compared(rt, &line[given..], &answers[0..many])?;
-            if after.wrong == s.wrong {
-                count(row, counts);
-            }
-            Ok(after)
-        }
-    }
-}
-
-fn count(row: u64, counts: &mut [u64; 100]) {
-    if row < 100 {
-        let i = row as usize;
-        counts[i] = up(counts[i]);
     }
 }

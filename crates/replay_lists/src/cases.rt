@@ -1,130 +1,82 @@
 // A line of the file: it opens a case, or stands in one.
 use crate::{commands, seen, walks};
-use promises::Made;
-use replay::tally::{Done, State};
-use replay::{say, tally};
-use std::io;
+use promises::MakeRefusal;
+use replay::stop::Stop;
+use replay::tally::Tally;
+use std::alloc::Global;
 
-// Where a line stands: before the first case, in one that is replayed, in one that is passed over.
-pub const NONE: u64 = 0;
-
-const OPEN: u64 = 1;
-
-const PASSED: u64 = 2;
+// The words of the largest region that a case is replayed in.
+const WORDS: usize = 524288;
 
 // The rows that count what is passed over.
-const PASSED_CASE: u64 = 90;
+pub const PASSED_CASE: u64 = 90;
 
-const PASSED_LINE: u64 = 91;
+pub const PASSED_LINE: u64 = 91;
 
-#[derive(Clone, Copy)]
-pub struct Place {
-    pub state: State,
-    pub case: u64,
-}
-
-// Nothing is answered, and the whole line is given.
-fn taken(line: &[u64]) -> Done {
-    Done::Answered {
-        given: line.len(),
-        many: 0,
-    }
+// Where a line stands: before the first case, in one that is replayed in a region, in one that is passed over.
+#[derive(Drop)]
+pub enum Case {
+    Before,
+    Open(Vec<u64>),
+    Passed,
 }
 
 // Opens the case `0 P S C N r`: a fresh region with exactly that room.
 fn open(
     rt: &impl Print,
-    s: State,
-    line: &[u64],
-    region: &mut [u64],
-    came: &mut [u64; 4096],
-    counts: &mut [u64; 100],
-) -> io::Result<Place> {
-    if line.len() != 6 {
-        let state = tally::judge(rt, s, line, 0, Done::BadNumbers, came, counts)?;
-        return Ok(Place { state, case: NONE });
-    }
-    match make::make(region, line[1], line[2], line[3], line[4]) {
-        Made::Done => {
-            let state = tally::judge(rt, s, line, 0, taken(line), came, counts)?;
-            Ok(Place { state, case: OPEN })
+    alloc: Global,
+    tally: &mut Tally,
+    [p, s, c, n]: [u64; 4],
+) -> Result<Case, Stop> {
+    let mut region = vec![in alloc; 0u64; WORDS]?;
+    match make::make(&mut region, p, s, c, n) {
+        Ok(()) => {
+            tally.judge(rt, 0, &[], &[])?;
+            Ok(Case::Open(region))
         }
-        Made::TooShort => {
-            let state = tally::judge(rt, s, line, PASSED_CASE, taken(line), came, counts)?;
-            Ok(Place {
-                state,
-                case: PASSED,
-            })
+        Err(MakeRefusal::TooShort) => {
+            tally.judge(rt, PASSED_CASE, &[], &[])?;
+            Ok(Case::Passed)
         }
-        Made::OutOfRange => {
-            let state = tally::judge(rt, s, line, 0, Done::BadNumbers, came, counts)?;
-            Ok(Place { state, case: NONE })
-        }
+        Err(MakeRefusal::OutOfRange) => Err(Stop::BadNumbers),
     }
 }
 
 fn replayed(
     rt: &impl Print,
-    s: State,
-    line: &[u64],
+    alloc: Global,
+    tally: &mut Tally,
     region: &mut [u64],
-    came: &mut [u64; 4096],
-    counts: &mut [u64; 100],
-) -> io::Result<State> {
-    if line.len() == 0 {
-        return Ok(s);
-    }
-    let op = line[0];
-    match op {
-        3 | 4 => walks::line(rt, s, line, op, region, came, counts),
-        5 | 6 | 7 => seen::number(rt, s, line, region, came, counts),
-        8 => seen::rank(rt, s, line, region, came, counts),
-        _ => commands::line(rt, s, line, region, came, counts),
+    line: &[u64],
+) -> Result<(), Stop> {
+    match line {
+        [3 | 4, ..] => walks::line(rt, alloc, tally, region, line),
+        [op @ (5 | 6 | 7), recorded] => seen::number(rt, tally, region, *op, *recorded),
+        [8, r, p, c, k, n] => seen::rank(rt, tally, region, *r, &[*p, *c, *k, *n]),
+        [5 | 6 | 7 | 8, ..] => Err(Stop::BadNumbers),
+        _ => commands::line(rt, alloc, tally, region, line),
     }
 }
 
-fn in_case(
+// Carries a line out.
+pub fn carry_out(
     rt: &impl Print,
-    s: State,
-    case: u64,
+    alloc: Global,
+    tally: &mut Tally,
+    case: &mut Case,
     line: &[u64],
-    region: &mut [u64],
-    came: &mut [u64; 4096],
-    counts: &mut [u64; 100],
-) -> io::Result<State> {
-    if case == OPEN {
-        return replayed(rt, s, line, region, came, counts);
+) -> Result<(), Stop> {
+    match (line, &mut *case) {
+        ([0, p, s, c, n, _], _) => {
+            *case = open(rt, alloc, tally, [*p, *s, *c, *n])?;
+            Ok(())
+        }
+        ([0, ..], _) => Err(Stop::BadNumbers),
+        (_, Case::Open(region)) => replayed(rt, alloc, tally, region, line),
+        (_, Case::Passed) => tally.judge(rt, PASSED_LINE, &[], &[]),
+        (_, Case::Before) => {
+            tally.say(rt, "no case was opened before this line")?;
+            Err(Stop::BadNumbers)
+        }
     }
-    if case == PASSED {
-        return tally::judge(rt, s, line, PASSED_LINE, taken(line), came, counts);
-    }
-    say::line(rt, s.line)?;
-    say::text(rt, b"no case was opened before this line\n")?;
-    tally::judge(rt, s, line, 0, Done::BadNumbers, came, counts)
-}
-
-// Takes a line and carries it out.
-pub fn step(
-    rt: &impl Print,
-    text: &[u8],
-    before: State,
-    case: u64,
-    numbers: &mut [u64; 4096],
-    region: &mut [u64],
-    counts: &mut [u64; 100],
-) -> io::Result<Place> {
-    let took = tally::take(rt, text, before, numbers)?;
-    let many = took.many;
-    let s = took.state;
-    if many == 0 {
-        return Ok(Place { state: s, case });
-    }
-    let all = &numbers[..];
-    let line = &all[0..many];
-    let mut came = [0u64; 4096];
-    if line[0] == 0 {
-        return open(rt, s, line, region, &mut came, counts);
-    }
-    let state = in_case(rt, s, case, line, region, &mut came, counts)?;
-    Ok(Place { state, case })
 }

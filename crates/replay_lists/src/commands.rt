@@ -1,110 +1,68 @@
 // The lines of commands: each is a command list of its own, of one command or of a run.
-use promises::Listed;
-use replay::runs::{Commands, Run};
-use replay::tally::{Done, State};
-use replay::{runs, say, tally};
-use std::io;
+use promises::ListRefusal;
+use replay::runs;
+use replay::runs::Run;
+use replay::stop::Stop;
+use replay::tally::Tally;
+use std::alloc::Global;
 
-// What came where the list was refused: no command answers this.
+// What came where the list was refused: no command answers this. A number, since it is held against recorded ones.
 const REFUSED: u64 = 1000;
 
 // What stands in the answers before a list runs: no command answers this.
 const UNTOUCHED: u8 = 255;
 
-fn wide(x: u8) -> u64 {
-    x as u64
+// Why a list was refused.
+fn why(refusal: ListRefusal) -> &'static str {
+    match refusal {
+        ListRefusal::Malformed => "the region is not well formed",
+        ListRefusal::BadLengths => "lengths",
+        ListRefusal::UnknownCode(_) => "an unknown code",
+        ListRefusal::WordTooLarge(_) => "a word too large",
+        ListRefusal::NoRoom(_) => "no room",
+    }
 }
 
-// The first answer that is not `recorded`, or `recorded`.
+// The first answer that is not as recorded, or what is recorded.
 fn first_other(answers: &[u8], recorded: u64) -> u64 {
-    let mut i = 0;
-    while i < answers.len() {
-        let a = wide(answers[i]);
-        if a != recorded {
-            return a;
-        }
-        i += 1;
-    }
-    recorded
-}
-
-fn refused(rt: &impl Print, s: State, why: &[u8]) -> io::Result<u64> {
-    if s.wrong == 0 {
-        say::line(rt, s.line)?;
-        say::text(rt, b"the list was refused: ")?;
-        say::text(rt, why)?;
-        say::text(rt, b"\n")?;
-    }
-    Ok(REFUSED)
-}
-
-fn said(
-    rt: &impl Print,
-    s: State,
-    listed: Listed,
-    answers: &[u8],
-    recorded: u64,
-) -> io::Result<u64> {
-    match listed {
-        Listed::Done => Ok(first_other(answers, recorded)),
-        Listed::Malformed => refused(rt, s, b"the region is not well formed"),
-        Listed::BadLengths => refused(rt, s, b"lengths"),
-        Listed::UnknownCode(_) => refused(rt, s, b"an unknown code"),
-        Listed::WordTooLarge(_) => refused(rt, s, b"a word too large"),
-        Listed::NoRoom(_) => refused(rt, s, b"no room"),
-    }
+    answers
+        .iter()
+        .map(|answer| u64::from(*answer))
+        .find(|answer| *answer != recorded)
+        .unwrap_or(recorded)
 }
 
 // Runs the list, and says what all its commands answered, or the first answer that is not as recorded.
 fn answered(
     rt: &impl Print,
-    s: State,
-    run: Run,
-    recorded: u64,
+    alloc: Global,
+    tally: &Tally,
     region: &mut [u64],
-) -> io::Result<u64> {
-    let codes = [run.code; 4096];
-    let mut words = [0u64; 4096];
-    let mut answers = [UNTOUCHED; 4096];
-    let many = run.many;
-    if many > 4096 {
+    run: Run<'_>,
+    recorded: u64,
+) -> Result<u64, Stop> {
+    let words = runs::words_of(alloc, run.start, run.step, run.many)?;
+    let codes = vec![in alloc; run.action.code(); words.len()]?;
+    let mut answers = vec![in alloc; UNTOUCHED; words.len()]?;
+    if let Err(refusal) = wordset_list::list(region, &codes, &words, &mut answers) {
+        let why = why(refusal);
+        tally.say_first(rt, format_args!("the list was refused: {why}"))?;
         return Ok(REFUSED);
     }
-    runs::fill(&mut words, run.start, run.step);
-    let listed = wordset_list::list(region, &codes[0..many], &words[0..many], &mut answers);
-    said(rt, s, listed, &answers[0..many], recorded)
+    Ok(first_other(&answers, recorded))
 }
 
 pub fn line(
     rt: &impl Print,
-    s: State,
-    line: &[u64],
+    alloc: Global,
+    tally: &mut Tally,
     region: &mut [u64],
-    came: &mut [u64; 4096],
-    counts: &mut [u64; 100],
-) -> io::Result<State> {
-    if line.len() == 0 {
-        return Ok(s);
-    }
-    let op = line[0];
-    match runs::commands_of(line, 1) {
-        Commands::Are(run) => {
-            let given = run.given;
-            if given >= line.len() {
-                return tally::judge(rt, s, line, op, Done::BadNumbers, came, counts);
-            }
-            came[0] = answered(rt, s, run, line[given], region)?;
-            tally::judge(
-                rt,
-                s,
-                line,
-                op,
-                Done::Answered { given, many: 1 },
-                came,
-                counts,
-            )
-        }
-        Commands::Unknown => tally::judge(rt, s, line, op, Done::Unknown, came, counts),
-        Commands::Bad => tally::judge(rt, s, line, op, Done::BadNumbers, came, counts),
-    }
+    line: &[u64],
+) -> Result<(), Stop> {
+    let run = runs::commands_of(line, 1)?;
+    let (&[op, ..], &[recorded]) = (line, run.recorded) else {
+        return Err(Stop::BadNumbers);
+    };
+    let came = answered(rt, alloc, tally, region, run, recorded)?;
+    tally.judge(rt, op, &[recorded], &[came])
 }

@@ -1,5 +1,5 @@
 // Replays the oracle's answers on the word set (answers/lists.txt, on standard input) over the proved entries make, list and walk, and compares every number.
-// Each case runs in a region with exactly the room that it is recorded to need. A case whose region is larger than what fits the stack is passed over, and counted.
+// Each case runs in a region with exactly the room that it is recorded to need. A case whose region is larger than 524,288 words is passed over, and counted.
 #![tactic(auto)]
 
 mod cases;
@@ -7,65 +7,48 @@ mod commands;
 mod seen;
 mod walks;
 
-use replay::tally::State;
-use replay::{input, say};
+use cases::Case;
+use replay::input;
+use replay::stop::Stop;
+use replay::tally::Tally;
+use std::alloc::Global;
 use std::io;
 
-// Line after line. Each has a byte at least, so the turns do not run out.
-fn all_lines(
-    rt: &impl Print,
-    text: &[u8],
-    region: &mut [u64],
-    counts: &mut [u64; 100],
-) -> io::Result<State> {
-    let mut numbers = [0u64; 4096];
-    let mut s = State::new();
-    let mut case: u64 = cases::NONE;
-    let mut turns: usize = 0;
-    while turns <= text.len() {
-        if !s.going {
-            return Ok(s);
+// The most bytes that are read of the text.
+const LONGEST: usize = 262144;
+
+fn all_lines(rt: &impl Print, alloc: Global, tally: &mut Tally, text: &[u8]) -> Result<(), Stop> {
+    let mut case = Case::Before;
+    for line in text.split_inclusive(|b| *b == b'\n') {
+        if let Some(numbers) = tally.take(line)? {
+            cases::carry_out(rt, alloc, tally, &mut case, &numbers)?;
         }
-        let after = cases::step(rt, text, s, case, &mut numbers, region, counts)?;
-        case = after.case;
-        s = after.state;
-        turns += 1;
     }
-    Ok(s)
-}
-
-// How many lines of each operation that is no command were as recorded.
-fn others(rt: &impl Print, counts: &[u64; 100]) -> io::Result<()> {
-    say::row(rt, b"  walk", counts[3])?;
-    say::row(rt, b"  walk as runs", counts[4])?;
-    say::row(rt, b"  members", counts[5])?;
-    say::row(rt, b"  nodes in use", counts[6])?;
-    say::row(rt, b"  containers in use", counts[7])?;
-    say::row(rt, b"  slot of a rank", counts[8])
-}
-
-// What was passed over.
-fn passed(rt: &impl Print, counts: &[u64; 100]) -> io::Result<()> {
-    say::text(
-        rt,
-        b"  passed over, since the region is more than 524,288 words: cases ",
-    )?;
-    say::number(rt, counts[90])?;
-    say::text(rt, b", their other lines ")?;
-    say::number(rt, counts[91])?;
-    say::text(rt, b"\n")
+    tally.at_end()
 }
 
 fn main(rt: HostRuntime) -> io::Result<()> {
-    let mut region = [0u64; 524288];
-    let mut text = [0u8; 262144];
-    let n = input::fill(&mut rt.reader(), &mut text)?;
-    say::text(&rt, b"answers/lists.txt over make, list and walk:\n")?;
-    let mut counts = [0u64; 100];
-    let s = all_lines(&rt, &text[..n], &mut region, &mut counts)?;
-    say::commands(&rt, &counts)?;
-    others(&rt, &counts)?;
-    passed(&rt, &counts)?;
-    say::text(&rt, b"  ")?;
-    s.without(counts[90]).without(counts[91]).verdict(&rt)
+    let alloc = rt.alloc();
+    let text = input::read(&rt, LONGEST)?;
+    println!(rt; "answers/lists.txt over make, list and walk:")?;
+    let mut tally = Tally::new(alloc);
+    let end = all_lines(&rt, alloc, &mut tally, &text);
+    let to_the_end = tally.came_to_end(&rt, end)?;
+    tally.say_commands(&rt)?;
+    tally.say_rows(
+        &rt,
+        &[
+            ("walk", 3),
+            ("walk as runs", 4),
+            ("members", 5),
+            ("nodes in use", 6),
+            ("containers in use", 7),
+            ("slot of a rank", 8),
+        ],
+    )?;
+    let (cases, lines) = (tally.row(cases::PASSED_CASE), tally.row(cases::PASSED_LINE));
+    println!(rt;
+        "  passed over, since the region is more than 524,288 words: cases {cases}, their other lines {lines}"
+    )?;
+    tally.verdict(&rt, to_the_end, cases.saturating_add(lines))
 }

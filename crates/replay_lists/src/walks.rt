@@ -1,41 +1,35 @@
 // The walk of the whole region, in its order.
-use promises::Walked;
-use replay::tally::State;
-use replay::{say, walks};
-use std::io;
+use promises::WalkRefusal;
+use replay::stop::Stop;
+use replay::tally::Tally;
+use replay::{lines, walks};
+use std::alloc::Global;
 
-// What came where the walk was refused: no recorded walk has so many words.
-fn refused(rt: &impl Print, s: State, why: &[u8]) -> io::Result<usize> {
-    if s.wrong == 0 {
-        say::line(rt, s.line)?;
-        say::text(rt, b"the walk was refused: ")?;
-        say::text(rt, why)?;
-        say::text(rt, b"\n")?;
+// The walk; 4,096 words stand for more, too, and for one that was refused: no recorded walk has so many words.
+fn walked(rt: &impl Print, alloc: Global, tally: &Tally, region: &[u64]) -> Result<Vec<u64>, Stop> {
+    let mut words = vec![in alloc; 0u64; lines::MOST]?;
+    match wordset_walk::walk(region, 0, &mut words) {
+        Ok(many) => words.truncate(many),
+        Err(WalkRefusal::Malformed) => {
+            tally.say_first(rt, "the walk was refused: the region is not well formed")?;
+        }
+        Err(WalkRefusal::StartTooFar) => {
+            tally.say_first(rt, "the walk was refused: the start is too far")?;
+        }
     }
-    Ok(4096)
-}
-
-// The walk, and how many words it has; 4,096 stands for more, too.
-fn walked(rt: &impl Print, s: State, region: &[u64], came: &mut [u64; 4096]) -> io::Result<usize> {
-    match wordset_walk::walk(region, 0, came) {
-        Walked::Wrote(n) => Ok(n),
-        Walked::Malformed => refused(rt, s, b"the region is not well formed"),
-        Walked::StartTooFar => refused(rt, s, b"the start is too far"),
-    }
+    Ok(words)
 }
 
 pub fn line(
     rt: &impl Print,
-    s: State,
-    line: &[u64],
-    op: u64,
+    alloc: Global,
+    tally: &mut Tally,
     region: &[u64],
-    came: &mut [u64; 4096],
-    counts: &mut [u64; 100],
-) -> io::Result<State> {
-    let many = walked(rt, s, region, came)?;
-    if op == 3 {
-        return walks::in_words(rt, s, line, many, came, counts);
+    line: &[u64],
+) -> Result<(), Stop> {
+    let came = walked(rt, alloc, tally, region)?;
+    match line {
+        [3, ..] => walks::in_words(rt, tally, line, &came),
+        _ => walks::in_runs(rt, alloc, tally, line, &came),
     }
-    walks::in_runs(rt, s, line, many, came, counts)
 }

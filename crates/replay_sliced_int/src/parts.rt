@@ -21,5 +21,5 @@ pub fn word(bits: u64, prefix: u64, suffix: u64) -> u64
     requires { bits < 64 }
     ensures { result ≡ joined bits prefix suffix % 2 ^ 64 }
 {
-    std::num::wrapping_add_u64(prefix << bits, suffix)
+    (prefix << bits).wrapping_add(suffix)
 }

@@ -1,51 +1,39 @@
 // The walk of a map, as one answer: how many bytes there are, and each in order.
-use bitvector::Next;
 use bitvector::tiny::TinyBitvector;
+use std::alloc::{AllocError, Global};
+use std::iter;
 
-// By taking the least byte out until there is nothing.
-pub fn by_taking(map: TinyBitvector, came: &mut [u64; 4096]) -> usize {
+fn told(alloc: Global, bytes: &[u64]) -> Result<Vec<u64>, AllocError> {
+    iter::once(bytes.len() as u64)
+        .chain(bytes.iter().copied())
+        .collect(alloc)
+}
+
+// By taking the least byte out until there is nothing: there are 256 bytes.
+pub fn by_taking(alloc: Global, map: TinyBitvector) -> Result<Vec<u64>, AllocError> {
+    let mut bytes = Vec::new(alloc);
     let mut rest = map;
-    let mut many: usize = 0;
-    while many < 256 {
+    for _ in 0..256 {
         let first = rest.pop_first();
-        let at = first.at;
-        match at {
-            Next::At(x) => {
-                many += 1;
-                came[many] = x as u64;
-                rest = first.rest;
-            }
-            Next::Nothing => {
-                came[0] = many as u64;
-                return many + 1;
-            }
-        }
+        let Some(x) = first.at else {
+            break;
+        };
+        bytes.push(x as u64)?;
+        rest = first.rest;
     }
-    came[0] = 256;
-    257
+    told(alloc, &bytes)
 }
 
-// By the least byte behind the last.
-pub fn by_next(map: TinyBitvector, came: &mut [u64; 4096]) -> usize {
-    let mut from: usize = 0;
-    let mut many: usize = 0;
-    while many < 256 {
-        match map.next(from) {
-            Next::At(x) => {
-                many += 1;
-                came[many] = x as u64;
-                from = behind(x);
-            }
-            Next::Nothing => {
-                came[0] = many as u64;
-                return many + 1;
-            }
-        }
+// By the least byte behind the last: there are 256 bytes.
+pub fn by_next(alloc: Global, map: TinyBitvector) -> Result<Vec<u64>, AllocError> {
+    let mut bytes = Vec::new(alloc);
+    let mut from = 0usize;
+    for _ in 0..256 {
+        let Some(x) = map.next(from) else {
+            break;
+        };
+        bytes.push(x as u64)?;
+        from = x.saturating_add(1);
     }
-    came[0] = 256;
-    257
-}
-
-fn behind(x: usize) -> usize {
-    if x < 256 { x + 1 } else { 256 }
+    told(alloc, &bytes)
 }

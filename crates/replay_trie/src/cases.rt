@@ -1,101 +1,99 @@
 // A line of the file: it opens a case, or stands in one.
-use crate::tree::Tree;
-use crate::{commands, tree, walks};
-use replay::tally::{Done, State};
-use replay::{say, tally};
-use std::io;
+use crate::tree;
+use crate::tree::{Fault, Tree};
+use arena::Shape;
+use replay::runs::Run;
+use replay::stop::Stop;
+use replay::tally::Tally;
+use replay::{runs, walks};
+use std::alloc::{AllocError, Global};
 
-#[derive(Clone, Copy)]
-pub struct Place {
-    pub state: State,
-    pub tree: Tree,
+// What came where a command found no room, and where the arena was not well formed or the suffix too large. Numbers, since they are held against recorded ones.
+const NO_ROOM: u64 = 1001;
+
+const REFUSED: u64 = 1000;
+
+fn number(answer: Result<bool, Fault>) -> u64 {
+    match answer {
+        Ok(yes) => u64::from(yes),
+        Err(Fault::NoRoom) => NO_ROOM,
+        Err(Fault::Refused) => REFUSED,
+    }
 }
 
-fn bad(rt: &impl Print, s: State, line: &[u64], counts: &mut [u64; 100]) -> io::Result<Place> {
-    let came = [0u64; 4096];
-    Ok(Place {
-        state: tally::judge(rt, s, line, 0, Done::BadNumbers, &came, counts)?,
-        tree: tree::none(),
-    })
+// What the commands of a line answered, or the first answer that is not as recorded.
+fn answer_of(
+    alloc: Global,
+    tree: &mut Tree,
+    run: Run<'_>,
+    recorded: u64,
+) -> Result<u64, AllocError> {
+    for x in runs::words_of(alloc, run.start, run.step, run.many)? {
+        let answer = number(tree.command(run.action, x));
+        if answer != recorded {
+            return Ok(answer);
+        }
+    }
+    Ok(recorded)
 }
 
-// Opens the case `0 b`.
-fn open(
+// A line of commands. The last number is the published copy's answer: it is not compared.
+fn commands(
     rt: &impl Print,
-    s: State,
+    alloc: Global,
+    tally: &mut Tally,
+    tree: &mut Tree,
+    op: u64,
     line: &[u64],
-    arena: &mut [u64],
-    counts: &mut [u64; 100],
-) -> io::Result<Place> {
-    let came = [0u64; 4096];
-    if line.len() != 2 {
-        return bad(rt, s, line, counts);
-    }
-    let b = line[1];
-    if b < 1 {
-        return bad(rt, s, line, counts);
-    }
-    if b > 5 {
-        return bad(rt, s, line, counts);
-    }
-    tree::lay(arena);
-    let done = Done::Answered { given: 2, many: 0 };
-    Ok(Place {
-        state: tally::judge(rt, s, line, 0, done, &came, counts)?,
-        tree: tree::fresh(b as usize),
-    })
+) -> Result<(), Stop> {
+    let run = runs::commands_of(line, 2)?;
+    let &[recorded, _] = run.recorded else {
+        return Err(Stop::BadNumbers);
+    };
+    let came = answer_of(alloc, tree, run, recorded)?;
+    tally.judge(rt, op, &[recorded], &[came])
 }
 
+// A line in a case.
 fn in_case(
     rt: &impl Print,
-    s: State,
-    t: Tree,
+    alloc: Global,
+    tally: &mut Tally,
+    tree: &mut Tree,
     line: &[u64],
-    arena: &mut [u64],
-    counts: &mut [u64; 100],
-) -> io::Result<Place> {
-    if line.len() == 0 {
-        return Ok(Place { state: s, tree: t });
-    }
-    let op = line[0];
-    match op {
-        3 | 4 => Ok(Place {
-            state: walks::walk(rt, s, t, line, op, arena, counts)?,
-            tree: t,
-        }),
-        5 | 6 => Ok(Place {
-            state: walks::number(rt, s, t, line, op, arena, counts)?,
-            tree: t,
-        }),
-        _ => commands::line(rt, s, t, line, arena, counts),
+) -> Result<(), Stop> {
+    match line {
+        [3, ..] => walks::in_words(rt, tally, line, &tree.walk(alloc)?),
+        [4, ..] => walks::in_runs(rt, alloc, tally, line, &tree.walk(alloc)?),
+        [5, recorded @ ..] => tally.judge(rt, 5, recorded, &[tree.count()]),
+        [6, recorded @ ..] => tally.judge(rt, 6, recorded, &[tree.nodes()]),
+        [op, ..] => commands(rt, alloc, tally, tree, *op, line),
+        [] => Err(Stop::BadNumbers),
     }
 }
 
-// Takes a line and carries it out.
-pub fn step(
+// Carries a line out: `0 b` opens a case.
+pub fn carry_out(
     rt: &impl Print,
-    text: &[u8],
-    before: State,
-    t: Tree,
-    numbers: &mut [u64; 4096],
-    arena: &mut [u64],
-    counts: &mut [u64; 100],
-) -> io::Result<Place> {
-    let took = tally::take(rt, text, before, numbers)?;
-    let many = took.many;
-    let s = took.state;
-    if many == 0 {
-        return Ok(Place { state: s, tree: t });
+    alloc: Global,
+    tally: &mut Tally,
+    case: &mut Option<Tree>,
+    line: &[u64],
+) -> Result<(), Stop> {
+    match (line, &mut *case) {
+        ([0, b @ 1..=5], _) => {
+            let shape = Shape {
+                slots: tree::SLOTS,
+                b: *b as usize,
+            };
+            *case = Some(Tree::new(alloc, shape)?);
+            tally.judge(rt, 0, &[], &[])
+        }
+        ([0, ..], _) => Err(Stop::BadNumbers),
+        (_, Some(tree)) => in_case(rt, alloc, tally, tree, line),
+        (_, None) => {
+            tally.say(rt, "no case was opened before this line")?;
+            Err(Stop::BadNumbers)
+        }
     }
-    let all = &numbers[..];
-    let line = &all[0..many];
-    if line[0] == 0 {
-        return open(rt, s, line, arena, counts);
-    }
-    if t.b == 0 {
-        say::line(rt, s.line)?;
-        say::text(rt, b"no case was opened before this line\n")?;
-        return bad(rt, s, line, counts);
-    }
-    in_case(rt, s, t, line, arena, counts)
 }

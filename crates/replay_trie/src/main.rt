@@ -3,58 +3,43 @@
 #![tactic(auto)]
 
 mod cases;
-mod commands;
 mod tree;
-mod walks;
 
-use replay::tally::State;
-use replay::{input, say};
+use replay::input;
+use replay::stop::Stop;
+use replay::tally::Tally;
+use std::alloc::Global;
 use std::io;
 
-// Line after line. Each has a byte at least, so the turns do not run out.
-fn all_lines(
-    rt: &impl Print,
-    text: &[u8],
-    arena: &mut [u64],
-    counts: &mut [u64; 100],
-) -> io::Result<State> {
-    let mut numbers = [0u64; 4096];
-    let mut s = State::new();
-    let mut t = tree::none();
-    let mut turns: usize = 0;
-    while turns <= text.len() {
-        if !s.going {
-            return Ok(s);
-        }
-        let after = cases::step(rt, text, s, t, &mut numbers, arena, counts)?;
-        t = after.tree;
-        s = after.state;
-        turns += 1;
-    }
-    Ok(s)
-}
+// The most bytes that are read of the text.
+const LONGEST: usize = 262144;
 
-// How many lines of each operation that is no command were as recorded.
-fn others(rt: &impl Print, counts: &[u64; 100]) -> io::Result<()> {
-    say::row(rt, b"  walk", counts[3])?;
-    say::row(rt, b"  walk as runs", counts[4])?;
-    say::row(rt, b"  suffixes", counts[5])?;
-    say::row(rt, b"  nodes in use", counts[6])
+fn all_lines(rt: &impl Print, alloc: Global, tally: &mut Tally, text: &[u8]) -> Result<(), Stop> {
+    let mut case = None;
+    for line in text.split_inclusive(|b| *b == b'\n') {
+        if let Some(numbers) = tally.take(line)? {
+            cases::carry_out(rt, alloc, tally, &mut case, &numbers)?;
+        }
+    }
+    tally.at_end()
 }
 
 fn main(rt: HostRuntime) -> io::Result<()> {
-    // 768 nodes, and their stack
-    let mut arena = [0u64; 203520];
-    let mut text = [0u8; 262144];
-    let n = input::fill(&mut rt.reader(), &mut text)?;
-    say::text(
+    let alloc = rt.alloc();
+    let text = input::read(&rt, LONGEST)?;
+    println!(rt; "answers/trie.txt over trie, trie_walk and trie_pour:")?;
+    let mut tally = Tally::new(alloc);
+    let end = all_lines(&rt, alloc, &mut tally, &text);
+    let to_the_end = tally.came_to_end(&rt, end)?;
+    tally.say_commands(&rt)?;
+    tally.say_rows(
         &rt,
-        b"answers/trie.txt over trie, trie_walk and trie_pour:\n",
+        &[
+            ("walk", 3),
+            ("walk as runs", 4),
+            ("suffixes", 5),
+            ("nodes in use", 6),
+        ],
     )?;
-    let mut counts = [0u64; 100];
-    let s = all_lines(&rt, &text[..n], &mut arena, &mut counts)?;
-    say::commands(&rt, &counts)?;
-    others(&rt, &counts)?;
-    say::text(&rt, b"  ")?;
-    s.verdict(&rt)
+    tally.verdict(&rt, to_the_end, 0)
 }

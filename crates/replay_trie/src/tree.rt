@@ -2,265 +2,182 @@
 ghost use Rattle.std.specs.Prelude.{◌≡◌, true, ◌*◌, ◌^◌, ◌≤◌, ◌<◌, length};
 ghost use Rattle.arena.specs.Arena.{nodes_in, Root, Arena};
 
-use arena::read;
-use arena_check::Verdict;
-use trie::{Inserted, Removed};
-use trie_pour::Planting;
+use arena::{Shape, read};
+use replay::lines;
+use replay::runs::Action;
+use std::alloc::{AllocError, Global};
+use trie::Removed;
 
-const SLOTS: usize = 768;
+pub const SLOTS: usize = 768;
+
+const NODE_WORDS: usize = 264;
 
 const WORDS: usize = 203520;
 
-#[derive(Clone, Copy)]
-pub struct Tree {
-    // levels; 0 before the first case
-    pub b: usize,
-    // whether it has a root, and which
-    pub planted: bool,
-    pub root: usize,
-    // nodes in use
-    pub used: usize,
-}
-
-// What a command came to.
-#[derive(Clone, Copy)]
-pub enum Answer {
-    No,
-    Yes,
-    // no room
-    NoRoom,
+// Why a command has no answer.
+#[derive(Clone, Copy, Debug, PartialEq, Eq)]
+pub enum Fault {
     // the arena is not well formed, or the suffix has too many bytes
     Refused,
+    NoRoom,
 }
 
-#[derive(Clone, Copy)]
-pub struct Did {
-    pub answer: Answer,
-    pub tree: Tree,
+#[derive(Drop)]
+pub struct Tree {
+    arena: Vec<u64>,
+    shape: Shape,
+    // nodes in use
+    used: usize,
+    root: Option<usize>,
 }
 
-pub fn none() -> Tree {
-    fresh(0)
-}
-
-pub fn fresh(b: usize) -> Tree {
-    Tree {
-        b,
-        planted: false,
-        root: 0,
-        used: 0,
+// An arena with all nodes free, node 0 on top of the stack.
+fn free_arena(alloc: Global) -> Result<Vec<u64>, AllocError> {
+    let mut arena = vec![in alloc; 0u64; WORDS]?;
+    let (stack, nodes) = arena.split_at_mut(SLOTS);
+    for (n, place) in stack.iter_mut().rev().enumerate() {
+        *place = n as u64;
     }
+    let (nodes, _) = nodes.as_chunks_mut::<NODE_WORDS>();
+    for (place, node) in (0..SLOTS as u64).rev().zip(nodes.iter_mut()) {
+        node[5] = place;
+    }
+    Ok(arena)
 }
 
-// All nodes free, node 0 on top of the stack.
-pub fn lay(arena: &mut [u64]) {
-    if arena.len() != WORDS {
-        return;
-    }
-    let mut n: usize = 0;
-    while n < SLOTS {
-        let place = SLOTS - 1 - n;
-        let node = SLOTS + 264 * n;
-        arena[place] = n as u64;
-        arena[node + 4] = 0;
-        arena[node + 5] = place as u64;
-        n += 1;
-    }
-}
-
-// Whether the arena is one of tries of 1 to 5 levels with so many nodes in use.
-fn is_arena(arena: &[u64], b: usize, used: usize) -> bool
-    ensures few { result ≡ true → (1 ≤ b) × (b ≤ 5) }
-    ensures arena { result ≡ true → Arena 768 b used arena.now }
+// Whether it is an arena of such tries with so many nodes in use.
+fn is_arena(arena: &[u64], shape: Shape, used: usize) -> bool
+    ensures { result ≡ true → Arena shape.slots shape.b used arena.now }
 {
-    if arena.len() != WORDS {
+    let Shape { slots, b } = shape;
+    if arena.len() != WORDS || slots != SLOTS {
         return false;
     }
-    if b < 1 {
-        return false;
-    }
-    if b > 5 {
-        return false;
-    }
-    match arena_check::well_formed(arena, SLOTS, used, b) {
-        Verdict::Malformed => false,
-        Verdict::Sound(_, _) => true,
-    }
+    arena_check::well_formed(arena, slots, used, b).is_some()
 }
 
 // Whether it is, and the node a root there.
-fn is_tree(arena: &[u64], b: usize, used: usize, root: usize) -> bool
-    ensures few { result ≡ true → (1 ≤ b) × (b ≤ 5) }
-    ensures arena { result ≡ true → Arena 768 b used arena.now }
-    ensures root { result ≡ true → Root (nodes_in 768 arena.now) 768 root }
+fn is_tree(arena: &[u64], shape: Shape, used: usize, root: usize) -> bool
+    ensures arena { result ≡ true → Arena shape.slots shape.b used arena.now }
+    ensures root { result ≡ true → Root (nodes_in shape.slots arena.now) shape.slots root }
 {
-    if root >= SLOTS {
+    if root >= shape.slots || !is_arena(arena, shape, used) {
         return false;
     }
-    if !is_arena(arena, b, used) {
-        return false;
-    }
-    read::level1(arena, SLOTS, root) == 1
+    read::level1(arena, shape.slots, root) == 1
 }
 
-// Whether a suffix has b bytes.
-fn has_bytes(x: u64, b: usize) -> bool
-    requires { b ≤ 5 }
-    ensures { result ≡ true → x < 2 ^ (8 * b) }
+// Whether a suffix has no more bytes than a trie has levels.
+fn has_bytes(x: u64, shape: Shape) -> bool
+    ensures { result ≡ true → x < 2 ^ (8 * shape.b) }
 {
+    let Shape { b, .. } = shape;
     x < 1u64 << (8 * b)
 }
 
-fn said(answer: Answer, tree: Tree) -> Did {
-    Did { answer, tree }
-}
+impl Tree {
+    pub fn new(alloc: Global, shape: Shape) -> Result<Self, AllocError> {
+        Ok(Self {
+            arena: free_arena(alloc)?,
+            shape,
+            used: 0,
+            root: None,
+        })
+    }
 
-// The first suffix makes the trie.
-fn plant(arena: &mut [u64], t: Tree, x: u64) -> Did {
-    let b = t.b;
-    let used = t.used;
-    if !is_arena(arena, b, used) {
-        return said(Answer::Refused, t);
-    }
-    if !has_bytes(x, b) {
-        return said(Answer::Refused, t);
-    }
-    let strip = [x; 1];
-    match trie_pour::plant(arena, SLOTS, used, b, 0, &strip) {
-        Planting::At(root, left) => said(
-            Answer::Yes,
-            Tree {
-                b,
-                planted: true,
-                root,
-                used: left,
-            },
-        ),
-        Planting::NoRoom => said(Answer::NoRoom, t),
-    }
-}
-
-fn look(arena: &[u64], t: Tree, x: u64) -> Answer {
-    let b = t.b;
-    let root = t.root;
-    if !is_tree(arena, b, t.used, root) {
-        return Answer::Refused;
-    }
-    if !has_bytes(x, b) {
-        return Answer::Refused;
-    }
-    if trie::contains(arena, SLOTS, b, root, x) {
-        return Answer::Yes;
-    }
-    Answer::No
-}
-
-fn insert(arena: &mut [u64], t: Tree, x: u64) -> Did {
-    let b = t.b;
-    let root = t.root;
-    let used = t.used;
-    if !is_tree(arena, b, used, root) {
-        return said(Answer::Refused, t);
-    }
-    if !has_bytes(x, b) {
-        return said(Answer::Refused, t);
-    }
-    match trie::insert(arena, SLOTS, used, b, root, x) {
-        Inserted::New(left) => said(
-            Answer::Yes,
-            Tree {
-                b,
-                planted: true,
-                root,
-                used: left,
-            },
-        ),
-        Inserted::Old => said(Answer::No, t),
-        Inserted::NoRoom => said(Answer::NoRoom, t),
-    }
-}
-
-// The last suffix takes the root with it.
-fn remove(arena: &mut [u64], t: Tree, x: u64) -> Did {
-    let b = t.b;
-    let root = t.root;
-    let used = t.used;
-    if !is_tree(arena, b, used, root) {
-        return said(Answer::Refused, t);
-    }
-    if !has_bytes(x, b) {
-        return said(Answer::Refused, t);
-    }
-    match trie::remove(arena, SLOTS, used, b, root, x) {
-        Removed::Gone(left) => said(
-            Answer::Yes,
-            Tree {
-                b,
-                planted: true,
-                root,
-                used: left,
-            },
-        ),
-        Removed::Last(left) => said(
-            Answer::Yes,
-            Tree {
-                b,
-                planted: false,
-                root: 0,
-                used: left,
-            },
-        ),
-        Removed::Absent => said(Answer::No, t),
-    }
-}
-
-// One command: 0 asks, 1 inserts, any other removes.
-pub fn command(arena: &mut [u64], t: Tree, code: u8, x: u64) -> Did {
-    if !t.planted {
-        if code == 1 {
-            return plant(arena, t, x);
+    // The first suffix makes the trie.
+    fn plant(&mut self, x: u64) -> Result<bool, Fault> {
+        let (shape, used) = (self.shape, self.used);
+        if !is_arena(&self.arena, shape, used) || !has_bytes(x, shape) {
+            return Err(Fault::Refused);
         }
-        return said(Answer::No, t);
+        let (root, used) = trie_pour::plant(&mut self.arena, shape, used, 0, &[x]).map_err(
+            |_| Fault::NoRoom,
+        )?;
+        self.root = Some(root);
+        self.used = used;
+        Ok(true)
     }
-    if code == 0 {
-        return said(look(arena, t, x), t);
-    }
-    if code == 1 {
-        return insert(arena, t, x);
-    }
-    remove(arena, t, x)
-}
 
-// How many suffixes there are.
-pub fn count(arena: &[u64], t: Tree) -> u64 {
-    let b = t.b;
-    let root = t.root;
-    if !t.planted {
-        return 0;
+    fn contains(&self, root: usize, x: u64) -> Result<bool, Fault> {
+        let (shape, used) = (self.shape, self.used);
+        if !is_tree(&self.arena, shape, used, root) || !has_bytes(x, shape) {
+            return Err(Fault::Refused);
+        }
+        Ok(trie::contains(&self.arena, shape, root, x))
     }
-    if !is_tree(arena, b, t.used, root) {
-        return u64::MAX;
-    }
-    trie_walk::count(arena, SLOTS, b, root) as u64
-}
 
-// How many nodes there are: an empty trie counts as its root.
-pub fn nodes(t: Tree) -> u64 {
-    if !t.planted {
-        return 1;
+    fn insert(&mut self, root: usize, x: u64) -> Result<bool, Fault> {
+        let (shape, used) = (self.shape, self.used);
+        if !is_tree(&self.arena, shape, used, root) || !has_bytes(x, shape) {
+            return Err(Fault::Refused);
+        }
+        let inserted = trie::insert(&mut self.arena, shape, used, root, x);
+        match inserted.map_err(|_| Fault::NoRoom)? {
+            Some(used) => {
+                self.used = used;
+                Ok(true)
+            }
+            None => Ok(false),
+        }
     }
-    t.used as u64
-}
 
-// The suffixes, ascending, and how many; 4,096 stands for more, and for an arena that is not well formed.
-pub fn walk(arena: &[u64], t: Tree, out: &mut [u64; 4096]) -> usize {
-    let b = t.b;
-    let root = t.root;
-    if !t.planted {
-        return 0;
+    // The last suffix takes the root with it.
+    fn remove(&mut self, root: usize, x: u64) -> Result<bool, Fault> {
+        let (shape, used) = (self.shape, self.used);
+        if !is_tree(&self.arena, shape, used, root) || !has_bytes(x, shape) {
+            return Err(Fault::Refused);
+        }
+        let (root, used) = match trie::remove(&mut self.arena, shape, used, root, x) {
+            Removed::Gone(used) => (Some(root), used),
+            Removed::Last(used) => (None, used),
+            Removed::Absent => return Ok(false),
+        };
+        self.root = root;
+        self.used = used;
+        Ok(true)
     }
-    if !is_tree(arena, b, t.used, root) {
-        return 4096;
+
+    // What a command answers.
+    pub fn command(&mut self, action: Action, x: u64) -> Result<bool, Fault> {
+        match (action, self.root) {
+            (Action::Insert, None) => self.plant(x),
+            (Action::Lookup | Action::Remove, None) => Ok(false),
+            (Action::Lookup, Some(root)) => self.contains(root, x),
+            (Action::Insert, Some(root)) => self.insert(root, x),
+            (Action::Remove, Some(root)) => self.remove(root, x),
+        }
     }
-    trie_walk::walk(arena, SLOTS, b, root, 0, out)
+
+    // How many suffixes there are.
+    pub fn count(&self) -> u64 {
+        match self.root {
+            None => 0,
+            Some(root) if is_tree(&self.arena, self.shape, self.used, root) => {
+                trie_walk::count(&self.arena, self.shape, root) as u64
+            }
+            Some(_) => u64::MAX,
+        }
+    }
+
+    // How many nodes there are: an empty trie counts as its root.
+    pub fn nodes(&self) -> u64 {
+        match self.root {
+            None => 1,
+            Some(_) => self.used as u64,
+        }
+    }
+
+    // The suffixes, ascending; 4,096 zeros stand for more, and for an arena that is not well formed.
+    pub fn walk(&self, alloc: Global) -> Result<Vec<u64>, AllocError> {
+        let Some(root) = self.root else {
+            return Ok(Vec::new(alloc));
+        };
+        let mut suffixes = vec![in alloc; 0u64; lines::MOST]?;
+        if is_tree(&self.arena, self.shape, self.used, root) {
+            let many = trie_walk::walk(&self.arena, self.shape, root, 0, &mut suffixes);
+            suffixes.truncate(many);
+        }
+        Ok(suffixes)
+    }
 }

@@ -9,7 +9,7 @@ use Rattle.model.specs.Demands.{Kept}
 use Rattle.region.specs.Areas.{numbers}
 use Rattle.region.specs.Read.{read, reading}
 use Rattle.promises.specs.Reads.{ReadsAs}
-use Rattle.set_ops.specs.Poured.{Alike, Framed, Halted, PouredAs, RanAs, pouring, wanted}
+use Rattle.set_ops.specs.Poured.{Alike, Framed, Halted, PouredAs, RanAs, pouring, wanted_by}
 use Rattle.set_ops.proofs.Pouring.{ended-framed, halted-more, last-poured, poured-from, reads-framed, was-ended, was-halted}
 
 keep_same : {s t : ℕ → Bool} → ((w : ℕ) → s w ≡ t w) → (xs : List ℕ) → keep s xs ≡ keep t xs
@@ -33,32 +33,32 @@ opposite false = refl
 
 module _ (a b : Reading) where
   -- union takes all of a, then all of b
-  pub chosen-or : chosen Op.Or a b ≡ keep (wanted b true true) (walk a) ++ keep (wanted a true true) (walk b)
+  pub chosen-or : chosen Op.Or a b ≡ keep (wanted_by b true true) (walk a) ++ keep (wanted_by a true true) (walk b)
   unfolding chosen
   chosen-or =
       ap (λ (xs : List ℕ). xs ++ keep (λ w. true) (walk b)) (keep_same (λ w. both (has b w)) (walk a))
-      ∙ ap (λ (xs : List ℕ). keep (wanted b true true) (walk a) ++ xs) (keep_same (λ w. both (has a w)) (walk b))
+      ∙ ap (λ (xs : List ℕ). keep (wanted_by b true true) (walk a) ++ xs) (keep_same (λ w. both (has a w)) (walk b))
 
   -- intersection takes the words of a that b has
-  pub chosen-and : chosen Op.And a b ≡ keep (wanted b true false) (walk a)
+  pub chosen-and : chosen Op.And a b ≡ keep (wanted_by b true false) (walk a)
   unfolding chosen
   chosen-and =
       ap (λ (xs : List ℕ). keep (λ w. has b w) (walk a) ++ xs) (keep-none (walk b))
       ∙ append-nil (keep (λ w. has b w) (walk a)) ∙ keep_same (λ w. itself (has b w)) (walk a)
 
   -- difference takes the words of a that b has not
-  pub chosen-minus : chosen Op.Minus a b ≡ keep (wanted b false true) (walk a)
+  pub chosen-minus : chosen Op.Minus a b ≡ keep (wanted_by b false true) (walk a)
   unfolding chosen
   chosen-minus =
       ap (λ (xs : List ℕ). keep (λ w. not (has b w)) (walk a) ++ xs) (keep-none (walk b))
       ∙ append-nil (keep (λ w. not (has b w)) (walk a)) ∙ keep_same (λ w. opposite (has b w)) (walk a)
 
   -- symmetric difference takes the words of a that b has not, then those of b that a has not
-  pub chosen-xor : chosen Op.Xor a b ≡ keep (wanted b false true) (walk a) ++ keep (wanted a false true) (walk b)
+  pub chosen-xor : chosen Op.Xor a b ≡ keep (wanted_by b false true) (walk a) ++ keep (wanted_by a false true) (walk b)
   unfolding chosen
   chosen-xor =
       ap (λ (xs : List ℕ). xs ++ keep (λ w. not (has a w)) (walk b)) (keep_same (λ w. opposite (has b w)) (walk a))
-      ∙ ap (λ (xs : List ℕ). keep (wanted b false true) (walk a) ++ xs) (keep_same (λ w. opposite (has a w)) (walk b))
+      ∙ ap (λ (xs : List ℕ). keep (wanted_by b false true) (walk a) ++ xs) (keep_same (λ w. opposite (has a w)) (walk b))
 
 -- Two passes
 

@@ -1,5 +1,7 @@
 -- Words poured after others are poured as one list; the destination keeps its numbers and its words past the total. Assumes nothing.
 use Rattle.std.proofs.Common.{◌≡◌, ℕ, ◌+◌, ◌-◌, ◌^◌, ◌<◌, ◌≤◌, Bool, true, false, List, [], ◌∷◌, ◌++◌, length, drop, sym, refl, ap, ◌∙◌, subst, arith, length-drop}
+use Rattle.std.specs.Prelude.{Result, Ok, Err, is_ok}
+use Rattle.arena.specs.declared.NoRoom.{NoRoom}
 use Rattle.model.specs.Reading.{Reading}
 use Rattle.model.specs.Commands.{Code, Command, Run, changed, run}
 use Rattle.model.specs.Combine.{inserting}
@@ -11,11 +13,16 @@ use Rattle.region.specs.Read.{read, reading}
 use Rattle.region.specs.WellFormed.{WellFormed}
 use Rattle.promises.specs.Reads.{past, ReadsAs}
 use Rattle.steps.specs.Commands.{Did, Full}
-use Rattle.wordset_trie.specs.declared.Outcome.{Outcome}
-use Rattle.wordset_trie.specs.declared.Outcome.TheVariants.{New, Old, NoRoom}
 use Rattle.wordset_insert.specs.Answers.{InsertedAs}
 use Rattle.set_ops.specs.Poured.{Alike, Ended, Framed, Halted, PouredAs, RanAs, pouring}
 use Rattle.set_ops.proofs.Runs.{Joins, inserting-append, kept_run, run-append, run-halts}
+
+-- what a call answered says whether there was room
+pub told-ok : {A : Type 0} {r : Result A NoRoom} {a : A} → r ≡ Ok a → is_ok r ≡ true
+told-ok {A} e = ap (λ (x : Result A NoRoom). is_ok x) e
+
+pub told-err : {A : Type 0} {r : Result A NoRoom} {n : NoRoom} → r ≡ Err n → is_ok r ≡ false
+told-err {A} e = ap (λ (x : Result A NoRoom). is_ok x) e
 
 -- the same numbers, the same words past the total
 pub past-kept : {q r : Reading} → Kept q r → (l : List ℕ) → past r l ≡ past q l
@@ -123,17 +130,10 @@ one-halted {l} {m} w wf f = record {
   framed = subst (Framed l) (sym f.stays) record { well-formed = wf; kept = record { P = refl; S = refl; C = refl; N = refl }; past-stays = refl };
 }
 
--- an insert by its answer: a word that was new
-pub put-new : (w : ℕ) {l m : List ℕ} (o : Outcome) → o ≡ New → InsertedAs w l o m → Ended (pouring (w ∷ []) l) l m
-put-new w {l} {m} o e h = one-poured w (subst (λ (x : Outcome). InsertedAs w l x m) e h)
-
--- a word that was a member already
-pub put-old : (w : ℕ) {l m : List ℕ} (o : Outcome) → o ≡ Old → InsertedAs w l o m → Ended (pouring (w ∷ []) l) l m
-put-old w {l} {m} o e h = one-poured w (subst (λ (x : Outcome). InsertedAs w l x m) e h)
-
--- a word that found no room
-pub put_full : (w : ℕ) {l m : List ℕ} → WellFormed l → (o : Outcome) → o ≡ NoRoom → InsertedAs w l o m → Halted (pouring (w ∷ []) l) l m
-put_full w {l} {m} wf o e h = one-halted w wf (subst (λ (x : Outcome). InsertedAs w l x m) e h)
+-- an insert by its answer: the word was new, or a member already
+pub put-done : (w : ℕ) {l m : List ℕ} (new : Bool) → InsertedAs w l (Ok new) m → Ended (pouring (w ∷ []) l) l m
+put-done w true h = one-poured w h
+put-done w false h = one-poured w h
 
 -- One list after another
 

@@ -14,8 +14,6 @@ use Rattle.region.specs.Fresh.{fresh}
 use Rattle.region.specs.Read.{read, reading}
 use Rattle.region.specs.WellFormed.{WellFormed}
 use Rattle.region.proofs.Facts.{good}
-use Rattle.promises.specs.declared.Combined.{Combined}
-use Rattle.promises.specs.Answers.{combined as told}
 use Rattle.promises.specs.Refusals.{Refusal, failing, holds, refusal, tell, when}
 use Rattle.promises.specs.Refusals.Told.{gave, refused}
 use Rattle.promises.specs.Reads.{past}
@@ -214,5 +212,5 @@ module _ (code : ℕ) (a b d : List ℕ)
               ran-framed e = let z : Halted o d m = subst (λ (x : Bool). RanAs o d x m) e h in z.framed
 
               -- which leaves the fresh image
-              pub ran-full : ok ≡ false → (n : List ℕ) → n ≡ fresh_again (reading m) m → (r : Combined) → r ≡ Combined.NoRoom → CombinePromise code a b d (told r) n
-              ran-full e n i r er = subst (λ (x : Combined). CombinePromise code a b d (told x) n) (sym er) (no_room (subst (λ (x : Bool). RanAs o d x m) e h) i)
+              pub ran-full : ok ≡ false → (n : List ℕ) → n ≡ fresh_again (reading m) m → CombinePromise code a b d (refused (refusal 9 0)) n
+              ran-full e n i = no_room (subst (λ (x : Bool). RanAs o d x m) e h) i

@@ -1,6 +1,8 @@
 -- Whether a suffix qualifies, as the slot of the other set tells; and the suffixes that do, as the words that do. Assumes nothing.
-use Rattle.std.proofs.Common.{◌≡◌, ℕ, zero, suc, ◌+◌, ◌-◌, ◌*◌, ◌^◌, ◌<◌, ◌≤◌, Bool, true, false, cond, eqb, List, [], ◌∷◌, ◌++◌, map, length, get_or, take, set, replicate, sym, refl, ap, ◌∙◌, subst, append-nil, arith, length-set, length-take-le, take_all, get_or-set_other, get_or-take, take-suc, get_or-set_same, take-suc-set, pow_pos, lt-ltb}
+use Rattle.std.proofs.Common.{◌≡◌, ℕ, zero, suc, ◌+◌, ◌-◌, ◌*◌, ◌^◌, ◌<◌, ◌≤◌, Bool, true, false, cond, eqb, List, [], ◌∷◌, ◌++◌, map, length, get_or, take, set, replicate, sym, refl, ap, ◌∙◌, subst, append-nil, arith, length-set, length-take-le, take_all, get_or-set_other, get_or-take, take-suc, get_or-set_same, take-suc-set, pow_pos}
+use Rattle.std.specs.Prelude.{IfSome, None, Option, Some}
 use native.Mathlib.Decide.{ℕ_discrete}
+use mir.Val.{bool_byte}
 use lib.ListN.{get_or-replicate}
 use lib.Seq.{take-set-le}
 use Rattle.lists.specs.Lists.{keep, mem}
@@ -14,7 +16,7 @@ use Rattle.region.specs.WellFormed.{rank_of, WellFormed}
 use Rattle.arena.specs.Arena.{Root, Tries, nodes_in}
 use Rattle.trie_look.specs.Each.{answer_at}
 use Rattle.wordset_lookup.proofs.Looks.{arena_part, clear-answer, set-answer, trie-ready, trie-says}
-use Rattle.set_ops.specs.Poured.{AllSmall, qualifying, wanted}
+use Rattle.set_ops.specs.Poured.{AllSmall, qualifying, wanted_by}
 use Rattle.set_ops.proofs.Lists.{keep_append}
 use Rattle.set_ops.proofs.Places.{word_small}
 
@@ -31,14 +33,14 @@ alike-own false x y e = refl
 
 module _ {o : List ℕ} (wf : WellFormed o) (p : ℕ) (hp : p < 2 ^ (numbers o).P) (common own : Bool) where
   -- a prefix that is clear has no word
-  pub clear-own : (t : Bool) → t ≡ eqb ((seen (numbers o) o).bit p) 1 → t ≡ false → (s : ℕ) → s < 2 ^ (numbers o).S → wanted (reading o) common own (joined (numbers o).S p s) ≡ own
+  pub clear-own : (t : Bool) → t ≡ eqb ((seen (numbers o) o).bit p) 1 → t ≡ false → (s : ℕ) → s < 2 ^ (numbers o).S → wanted_by (reading o) common own (joined (numbers o).S p s) ≡ own
   clear-own t et i s h =
       let S : ℕ = (numbers o).S in
       ap (λ (b : Bool). cond b common own) (sym (clear-answer o wf (joined S p s) (word_small (numbers o).P S p s hp h) S refl p (sym (prefix-joined S p s h)) t et i))
 
   -- the test of a suffix is the test of its word
   pub picks-wanted : (d : ℕ) → (seen (numbers o) o).bit p ≡ 1 → d ≡ (seen (numbers o) o).slot (rank_of (numbers o) (seen (numbers o) o) p)
-      → (s : ℕ) → s < 2 ^ (numbers o).S → picks o d common own s ≡ wanted (reading o) common own (joined (numbers o).S p s)
+      → (s : ℕ) → s < 2 ^ (numbers o).S → picks o d common own s ≡ wanted_by (reading o) common own (joined (numbers o).S p s)
   picks-wanted d set at s h =
       let S : ℕ = (numbers o).S in
       ap (λ (b : Bool). cond b common own) (set-answer o wf (joined S p s) (word_small (numbers o).P S p s hp h) S refl p (sym (prefix-joined S p s h)) set d at s (sym (suffix-joined S p s h)) (mem s (suffixes (numbers o) (seen (numbers o) o) d)) refl)
@@ -49,6 +51,11 @@ module _ {o : List ℕ} (wf : WellFormed o) (p : ℕ) (hp : p < 2 ^ (numbers o).
 pub flag-picks : (m x y : Bool) (f k : ℕ) → f ≡ cond m 1 0 → k ≡ cond (cond (eqb f 1) x y) 1 0 → k ≡ cond (cond m x y) 1 0
 flag-picks true x y f k e h = h ∙ ap (λ (z : ℕ). cond (cond (eqb z 1) x y) 1 0) e
 flag-picks false x y f k e h = h ∙ ap (λ (z : ℕ). cond (cond (eqb z 1) x y) 1 0) e
+
+-- the byte of a test
+pub byte-one : (b : Bool) → bool_byte b ≡ cond b 1 0
+byte-one true = refl
+byte-one false = refl
 
 -- it counts at most one
 pub flag_one : (b : Bool) (k : ℕ) → k ≡ cond b 1 0 → k ≤ 1
@@ -76,34 +83,33 @@ flag-next xs ss fs₀ fs i room at h b eb f ef = record { upto = omega arith; lo
 module _ (l : List ℕ) (wf : WellFormed l) (d : ℕ) (h : d < (numbers l).C) (k : (seen (numbers l) l).kind d ≡ 2) (n b r : ℕ) (en : n ≡ (numbers l).N) (eb : b ≡ bytes_of (numbers l).S) (er : r ≡ (seen (numbers l) l).link d)
     (ss : List ℕ) (hs : AllSmall (numbers l).S ss) (few : length ss ≤ 64) where
   -- as many roots as suffixes, all the same
-  abbrev rs : List ℕ
-  rs = take (length ss - 0) (replicate 64 r)
+  abbrev rs : List (Option ℕ)
+  rs = take (length ss - 0) (replicate 64 (Some r))
 
   whole : length ss - 0 ≡ length ss
   whole = omega arith
 
   long : length rs ≡ length ss
-  long = ap (λ (z : ℕ). length (take z (replicate 64 r))) whole ∙ length-take-le (length ss) (replicate 64 r) few
+  long = ap (λ (z : ℕ). length (take z (replicate 64 (Some r)))) whole ∙ length-take-le (length ss) (replicate 64 (Some r)) few
 
-  same : (i : ℕ) → i < length ss → get_or rs i 0 ≡ r
-  same i u = ap (λ (z : ℕ). get_or (take z (replicate 64 r)) i 0) whole ∙ get_or-take (length ss) (replicate 64 r) i 0 u ∙ get_or-replicate 64 i r 0 (omega arith)
+  same : (i : ℕ) → i < length ss → get_or rs i None ≡ Some r
+  same i u = ap (λ (z : ℕ). get_or (take z (replicate 64 (Some r))) i None) whole ∙ get_or-take (length ss) (replicate 64 (Some r)) i None u ∙ get_or-replicate 64 i (Some r) None (omega arith)
 
   root : Root (nodes_in n (arena_part l wf)) n r
   root = (trie-ready l wf d h k n b r en eb er 0 (pow_pos (numbers l).S)).1.0
 
   -- what asking a trie asks
   pub trie-asks : {X : Type 0} → X
-      → Tries n b (arena_part l wf) × ((1 ≤ b) × ((b ≤ 5) × ((length ss ≤ 64) × ((length rs ≡ length ss) × (X × (((i : ℕ) → i < length rs → get_or rs i 0 < n → Root (nodes_in n (arena_part l wf)) n (get_or rs i 0)) × ((i : ℕ) → i < length ss → get_or ss i 0 < 2 ^ (8 * b))))))))
+      → Tries n b (arena_part l wf) × ((length ss ≤ 64) × ((length rs ≡ length ss) × (X × (((i : ℕ) → i < length rs → IfSome (get_or rs i None) (λ x. Root (nodes_in n (arena_part l wf)) n x)) × ((i : ℕ) → i < length ss → get_or ss i 0 < 2 ^ (8 * b))))))
   trie-asks x =
       let q = trie-ready l wf d h k n b r en eb er 0 (pow_pos (numbers l).S) in
-      (q.0, (q.1.1.0, (q.1.1.1.0, (few, (long, (x, ((λ i u v. subst (Root (nodes_in n (arena_part l wf)) n) (sym (same i (omega (arith, long)))) root), λ i u. (trie-ready l wf d h k n b r en eb er (get_or ss i 0) (hs i u)).1.1.1.1)))))))
+      (q.0, (few, (long, (x, ((λ i u. subst (λ (o : Option ℕ). IfSome o (λ x. Root (nodes_in n (arena_part l wf)) n x)) (sym (same i (omega (arith, long)))) root), λ i u. (trie-ready l wf d h k n b r en eb er (get_or ss i 0) (hs i u)).1.1.1.1)))))
 
   -- and what it says
-  pub trie-each : (fs₀ fs : List ℕ) → ((i : ℕ) → i < length ss → get_or fs i 0 ≡ answer_at (nodes_in n (arena_part l wf)) n b (get_or rs i 0) (get_or ss i 0) (get_or fs₀ i 0))
+  pub trie-each : (fs₀ fs : List ℕ) → ((i : ℕ) → i < length ss → get_or fs i 0 ≡ answer_at (nodes_in n (arena_part l wf)) b (get_or rs i None) (get_or ss i 0) (get_or fs₀ i 0))
       → (i : ℕ) → i < length ss → get_or fs i 0 ≡ cond (mem (get_or ss i 0) (suffixes (numbers l) (seen (numbers l) l) d)) 1 0
   trie-each fs₀ fs says i u =
-      says i u ∙ ap (λ (z : ℕ). answer_at (nodes_in n (arena_part l wf)) n b z (get_or ss i 0) (get_or fs₀ i 0)) (same i u)
-      ∙ ap (λ (z : Bool). cond z (cond (mem (get_or ss i 0) (members (nodes_in n (arena_part l wf)) b r)) 1 0) (get_or fs₀ i 0)) (lt-ltb r n root.in-range)
+      says i u ∙ ap (λ (z : Option ℕ). answer_at (nodes_in n (arena_part l wf)) b z (get_or ss i 0) (get_or fs₀ i 0)) (same i u)
       ∙ ap (λ (z : Bool). cond z 1 0) (trie-says l wf d h k n b r en eb er (get_or ss i 0) (mem (get_or ss i 0) (members (nodes_in n (arena_part l wf)) b r)) refl)
 
 -- A block

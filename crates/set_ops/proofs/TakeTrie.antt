@@ -26,10 +26,10 @@ use Rattle.promises.specs.Reads.{ReadsAs}
 use Rattle.trie_each.specs.Each.{put_each}
 use Rattle.steps.proofs.Places.{under-set}
 use Rattle.wordset_trie.specs.Answers.{PutEach, held_in}
-use Rattle.wordset_trie.specs.declared.Outcome.TheVariants.{NoRoom}
+use Rattle.std.specs.Prelude.{Err}
 use Rattle.wordset_insert.proofs.Inserting.{Parted, c-trie, joined-parted, put-done, stands_set, stands-there}
 use Rattle.set_ops.specs.Poured.{AllSmall, Ended, Halted, PouredAs, pouring}
-use Rattle.set_ops.proofs.Pouring.{ended-framed, framed-P, put_full}
+use Rattle.set_ops.proofs.Pouring.{ended-framed, framed-P, one-halted}
 use Rattle.set_ops.proofs.TakeSlots.{Stands, bears-stands, known-placed, placed-stands, stands-bears}
 use Rattle.set_ops.proofs.TakeRest.{Resting, rest_end, rest-halt, rest-ready, worded}
 use Rattle.set_ops.proofs.TakeVector.{Fills, filled, filled-good, filled-over, fills-more, fills-none, has_here, insert-added, insert-held, under-filled}
@@ -221,7 +221,7 @@ module _ {l : List ℕ} (wf : WellFormed l) (c : ℕ) (h : c < (numbers l).C) (k
 
     -- it finds no room
     pub trie-halted : Halted (pouring (worded l c ss) l) l m
-    trie-halted = rest-halt c ss l small m done resting e false m (put_full next wfm NoRoom refl (put-done parts set there trie NoRoom m (x.full e, refl))) refl
+    trie-halted = rest-halt c ss l small m done resting e false m (one-halted next wfm (put-done parts set there trie (Err (record {})) m (x.full e, refl))) refl
 
   -- by whether all were put in
   pub trie-answer : PouredAs (worded l c ss) l (eqb done (length ss)) m × (eqb done (length ss) ≡ true → Bears (numbers m) (seen (numbers m) m) (v.prefix c) c)

@@ -39,11 +39,9 @@ fn free_each(s: &mut [u64], n: usize)
     ensures levels { (i : ℕ) → i < n → (nodes_of s.new).level1 i ≡ 0 }
     ensures places { (i : ℕ) → i < n → (nodes_of s.new).parent i ≡ n - 1 - i }
 {
-    let mut i = 0;
-    while i < n {
+    for i in 0..n {
         s[i * 264 + 4] = 0;
         s[i * 264 + 5] = (n - 1 - i) as u64;
-        i += 1;
     }
 }
 

@@ -1,24 +1,66 @@
 // Combines two sets into a third: union, intersection, difference and symmetric difference.
 #![tactic(auto)]
 
-ghost use Rattle.std.specs.Prelude.{◌≡◌, ◌≤◌, ◌&&◌, ◌==◌};
-ghost use Rattle.model.specs.Combine.{Op, op_of, chosen, combine as combining};
+ghost use Rattle.std.specs.Prelude.{◌≡◌, ◌&&◌, ◌==◌, ◌++◌, is_ok};
+ghost use Rattle.lists.specs.Lists.{keep};
+ghost use Rattle.model.specs.Combine.{chosen, combine as combining};
+ghost use Rattle.model.specs.Reading.{walk};
 ghost use Rattle.region.specs.Areas.{numbers};
 ghost use Rattle.region.specs.Read.{reading};
 ghost use Rattle.region.specs.WellFormed.{Ready, WellFormed};
 ghost use Rattle.promises.specs.Answers.{combined};
-ghost use Rattle.promises.specs.Combine.{fresh_again, CombinePromise};
-ghost use Rattle.set_ops.specs.Poured.{Alike, PouredAs, RanAs};
+ghost use Rattle.promises.specs.Combine.{CombinePromise, fresh_again};
+ghost use Rattle.promises.specs.declared.CombineRefusal.{CombineRefusal};
+ghost use Rattle.set_ops.specs.Poured.{Alike, Decodes, PouredAs, RanAs, meant, wanted as is_wanted};
 
 use crate::afresh::{clear, start_afresh};
 use crate::pour::pour;
+use crate::take::Wanted;
+use arena::NoRoom;
 use inspect::well_formed;
 use lens::read;
-use promises::Combined;
+use promises::CombineRefusal;
 
 mod afresh;
 mod pour;
 mod take;
+
+// The four combinations.
+#[derive(Clone, Copy, Debug, PartialEq, Eq)]
+pub enum Operation {
+    Or,
+    And,
+    Minus,
+    Xor,
+}
+
+// A code that names no combination.
+#[derive(Clone, Copy, Debug, PartialEq, Eq)]
+pub struct UnknownOperation;
+
+impl TryFrom<u64> for Operation {
+    type Error = UnknownOperation;
+
+    ghost try_from_gives = { Decodes };
+
+    fn try_from(code: u64) -> Result<Self, UnknownOperation> {
+        match code {
+            0 => Ok(Operation::Or),
+            1 => Ok(Operation::And),
+            2 => Ok(Operation::Minus),
+            3 => Ok(Operation::Xor),
+            _ => Err(UnknownOperation),
+        }
+    }
+}
+
+impl From<UnknownOperation> for CombineRefusal {
+    ghost from_gives = { λ _ r. r ≡ CombineRefusal.UnknownCode };
+
+    fn from(_unknown: UnknownOperation) -> CombineRefusal {
+        CombineRefusal::UnknownCode
+    }
+}
 
 // Whether two sets agree in P and S.
 fn agree(a: &[u64], b: &[u64]) -> bool
@@ -32,108 +74,61 @@ fn agree(a: &[u64], b: &[u64]) -> bool
     read::s(a) == read::s(b)
 }
 
-// Union: all of a, then all of b.
-fn bitor(a: &[u64], b: &[u64], dest: &mut [u64]) -> bool
+// The words of a that are wanted, then those of b.
+fn both(a: &[u64], b: &[u64], dest: &mut [u64], wanted: Wanted) -> Result<(), NoRoom>
     requires well_formed { WellFormed a.now }
     requires well_formed_2 { WellFormed b.now }
     requires well_formed_3 { WellFormed dest.old }
     requires alike { Alike a.now dest.old }
     requires alike_2 { Alike b.now dest.old }
-    ensures { PouredAs (chosen Op.Or (reading a.now) (reading b.now)) dest.old result dest.new }
+    ensures { PouredAs (keep (is_wanted (reading b.now) wanted) (walk (reading a.now)) ++ keep (is_wanted (reading a.now) wanted) (walk (reading b.now))) dest.old (is_ok result) dest.new }
 {
-    if !pour(a, b, dest, true, true) {
-        return false;
-    }
-    pour(b, a, dest, true, true)
+    pour(a, b, dest, wanted)?;
+    pour(b, a, dest, wanted)
 }
 
-// Intersection: the words of a that b has.
-fn bitand(a: &[u64], b: &[u64], dest: &mut [u64]) -> bool
+// What each operation wants of a, and of b.
+fn by_operation(operation: Operation, a: &[u64], b: &[u64], dest: &mut [u64]) -> Result<(), NoRoom>
     requires well_formed { WellFormed a.now }
     requires well_formed_2 { WellFormed b.now }
     requires well_formed_3 { WellFormed dest.old }
     requires alike { Alike a.now dest.old }
     requires alike_2 { Alike b.now dest.old }
-    ensures { PouredAs (chosen Op.And (reading a.now) (reading b.now)) dest.old result dest.new }
+    ensures { PouredAs (chosen (meant operation) (reading a.now) (reading b.now)) dest.old (is_ok result) dest.new }
 {
-    pour(a, b, dest, true, false)
+    match operation {
+        Operation::Or => both(a, b, dest, Wanted::All),
+        Operation::And => pour(a, b, dest, Wanted::Shared),
+        Operation::Minus => pour(a, b, dest, Wanted::Own),
+        Operation::Xor => both(a, b, dest, Wanted::Own),
+    }
 }
 
-// Difference: the words of a that b has not.
-fn sub(a: &[u64], b: &[u64], dest: &mut [u64]) -> bool
+// The destination afresh, and the words that qualify, if there is room for all of them.
+fn fill(operation: Operation, a: &[u64], b: &[u64], dest: &mut [u64]) -> Result<(), NoRoom>
     requires well_formed { WellFormed a.now }
     requires well_formed_2 { WellFormed b.now }
     requires well_formed_3 { WellFormed dest.old }
     requires alike { Alike a.now dest.old }
     requires alike_2 { Alike b.now dest.old }
-    ensures { PouredAs (chosen Op.Minus (reading a.now) (reading b.now)) dest.old result dest.new }
-{
-    pour(a, b, dest, false, true)
-}
-
-// Symmetric difference: the words of a that b has not, then those of b that a has not.
-fn bitxor(a: &[u64], b: &[u64], dest: &mut [u64]) -> bool
-    requires well_formed { WellFormed a.now }
-    requires well_formed_2 { WellFormed b.now }
-    requires well_formed_3 { WellFormed dest.old }
-    requires alike { Alike a.now dest.old }
-    requires alike_2 { Alike b.now dest.old }
-    ensures { PouredAs (chosen Op.Xor (reading a.now) (reading b.now)) dest.old result dest.new }
-{
-    if !pour(a, b, dest, false, true) {
-        return false;
-    }
-    pour(b, a, dest, false, true)
-}
-
-// The combination of a known code.
-fn by_code(code: u64, a: &[u64], b: &[u64], dest: &mut [u64]) -> bool
-    requires well_formed { WellFormed a.now }
-    requires well_formed_2 { WellFormed b.now }
-    requires well_formed_3 { WellFormed dest.old }
-    requires alike { Alike a.now dest.old }
-    requires alike_2 { Alike b.now dest.old }
-    requires code_bound { code ≤ 3 }
-    ensures { PouredAs (chosen (op_of code) (reading a.now) (reading b.now)) dest.old result dest.new }
-{
-    if code == 0 {
-        return bitor(a, b, dest);
-    }
-    if code == 1 {
-        return bitand(a, b, dest);
-    }
-    if code == 2 {
-        return sub(a, b, dest);
-    }
-    bitxor(a, b, dest)
-}
-
-// The destination afresh, and the words that qualify: whether there was room for all of them.
-fn fill(code: u64, a: &[u64], b: &[u64], dest: &mut [u64]) -> bool
-    requires well_formed { WellFormed a.now }
-    requires well_formed_2 { WellFormed b.now }
-    requires well_formed_3 { WellFormed dest.old }
-    requires alike { Alike a.now dest.old }
-    requires alike_2 { Alike b.now dest.old }
-    requires code_bound { code ≤ 3 }
-    ensures { RanAs (combining (op_of code) (reading a.now) (reading b.now) (reading dest.old).C (reading dest.old).N) dest.old result dest.new }
+    ensures { RanAs (combining (meant operation) (reading a.now) (reading b.now) (reading dest.old).C (reading dest.old).N) dest.old (is_ok result) dest.new }
 {
     start_afresh(dest);
-    by_code(code, a, b, dest)
+    by_operation(operation, a, b, dest)
 }
 
 // No room: the fresh image is left.
-fn give_up(dest: &mut [u64]) -> Combined
+fn give_up(dest: &mut [u64]) -> CombineRefusal
     requires { WellFormed dest.old }
-    ensures answer { result ≡ Combined.NoRoom }
+    ensures answer { result ≡ CombineRefusal.NoRoom }
     ensures image { dest.new ≡ fresh_again (reading dest.old) dest.old }
 {
     clear(dest);
-    Combined::NoRoom
+    CombineRefusal::NoRoom
 }
 
 // Combine two sets into a third: codes 0 or, 1 and, 2 minus, 3 xor. The destination starts from the fresh image with its own C and N.
-pub fn combine(code: u64, a: &[u64], b: &[u64], dest: &mut [u64]) -> Combined
+pub fn combine(code: u64, a: &[u64], b: &[u64], dest: &mut [u64]) -> Result<(), CombineRefusal>
     ensures { CombinePromise code a.now b.now dest.old (combined result) dest.new }
 {
     // All three are asked first: the promise speaks of each of them whatever the others are.
@@ -141,25 +136,23 @@ pub fn combine(code: u64, a: &[u64], b: &[u64], dest: &mut [u64]) -> Combined
     let good_b = well_formed(b);
     let good_dest = well_formed(dest);
     if !good_a {
-        return Combined::Malformed(0);
+        return Err(CombineRefusal::Malformed(0));
     }
     if !good_b {
-        return Combined::Malformed(1);
+        return Err(CombineRefusal::Malformed(1));
     }
     if !good_dest {
-        return Combined::Malformed(2);
+        return Err(CombineRefusal::Malformed(2));
     }
-    if code > 3 {
-        return Combined::UnknownCode;
-    }
+    let operation = Operation::try_from(code)?;
     if !agree(a, b) {
-        return Combined::SetsDiffer;
+        return Err(CombineRefusal::SetsDiffer);
     }
     if !agree(a, dest) {
-        return Combined::SetsDiffer;
+        return Err(CombineRefusal::SetsDiffer);
     }
-    if fill(code, a, b, dest) {
-        return Combined::Done;
+    if let Err(NoRoom) = fill(operation, a, b, dest) {
+        return Err(give_up(dest));
     }
-    give_up(dest)
+    Ok(())
 }

@@ -1,6 +1,7 @@
--- How two numbers stand to each other, as the enum Order. Assumes nothing.
+-- How two numbers stand to each other, as the library's Ordering. Assumes nothing.
 use Rattle.std.specs.Prelude.{cond, ℕ, ltb}
-use Rattle.sliced_int.specs.declared.Order.{Order}
+use Rattle.std.specs.declared.cmp.Ordering.{Ordering}
+use Rattle.std.specs.declared.cmp.Ordering.TheVariants.{Less, Equal, Greater}
 
-abbrev pub order_of : ℕ → ℕ → Order
-order_of x y = cond (ltb x y) Order.Less (cond (ltb y x) Order.Greater Order.Equal)
+abbrev pub order_of : ℕ → ℕ → Ordering
+order_of x y = cond (ltb x y) Less (cond (ltb y x) Greater Equal)

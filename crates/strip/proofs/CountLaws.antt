@@ -1,6 +1,5 @@
 -- How many different entries the first j + 1 have: one more than the first j where entry j is none of those, else as many. Assumes nothing.
-use Rattle.std.proofs.Common.{◌≡◌, ℕ, suc, ◌+◌, ◌<◌, ◌≤◌, Bool, true, false, ◌||◌, eqb, List, ◌∷◌, length, get_or, take, sym, ap, ◌∙◌, add-one, arith}
-use lib.Seq.{take-length}
+use Rattle.std.proofs.Common.{◌≡◌, ℕ, suc, ◌+◌, ◌<◌, Bool, true, false, ◌||◌, eqb, List, ◌∷◌, length, get_or, take, sym, ap, ◌∙◌, add-one, arith}
 use Rattle.lists.specs.Lists.{mem, sorted, different}
 use Rattle.lists.proofs.Laws.{or-false, or_swap, mem-sorted, ascending-sorted, different-within}
 use Rattle.model.proofs.ContainerLaws.{length-put-new, length-put-old}
@@ -34,7 +33,3 @@ module _ (xs : List ℕ) (j : ℕ) (l : j < length xs) where
       let a = last-first in
       let b = length-put-old x (sorted (take j xs)) (ascending-sorted (take j xs)) (mem-sorted x (take j xs) ∙ sym m ∙ q) in
       rw (add-one j) (omega arith)
-
--- at the end the first entries are all
-pub count-all : (xs : List ℕ) (n j : ℕ) → n ≡ different (take j xs) → j ≤ length xs → length xs ≤ j → n ≡ different xs
-count-all xs n j e h l = let q : j ≡ length xs = omega arith in e ∙ ap (λ (k : ℕ). different (take k xs)) q ∙ ap different (take-length xs)

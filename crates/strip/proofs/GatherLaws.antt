@@ -1,5 +1,5 @@
 -- Suffixes gathered behind entries, one more at a time. Assumes nothing.
-use Rattle.std.proofs.Common.{◌≡◌, ℕ, suc, ◌+◌, ◌-◌, ◌^◌, ◌<◌, ◌≤◌, Bool, true, false, cond, List, [], ◌∷◌, ◌++◌, length, get_or, take, set, sym, refl, ap, ◌∙◌, subst, add-one, arith, length-append, length-set, length-take-le, take_all, take-suc, take-suc-set}
+use Rattle.std.proofs.Common.{◌≡◌, ℕ, suc, ◌+◌, ◌^◌, ◌<◌, ◌≤◌, Bool, true, false, cond, List, [], ◌∷◌, ◌++◌, length, get_or, take, set, sym, refl, ap, ◌∙◌, subst, add-one, arith, length-append, length-set, length-take-le, take-suc, take-suc-set}
 use Rattle.lists.specs.Lists.{mem}
 use Rattle.lists.proofs.Laws.{by-test}
 use Rattle.model.specs.Change.{added}
@@ -12,14 +12,6 @@ use Rattle.strip.specs.Entries.{behind, gathered, Gathered}
 gathered-more : (xs ss : List ℕ) (s : ℕ) → gathered xs (ss ++ (s ∷ [])) ≡ behind s (gathered xs ss)
 gathered-more xs [] s = refl
 gathered-more xs (t ∷ ss) s = gathered-more (behind t xs) ss s
-
--- at first none is gathered
-pub gather-start : (xs : List ℕ) (n : ℕ) (ss : List ℕ) → Gathered xs n (take 0 ss) n xs
-gather-start xs n ss = record { long = refl; more = omega arith; few = omega arith; front = refl }
-
--- at the end all are
-pub gather-end : (xs : List ℕ) (n : ℕ) (ss : List ℕ) (r : ℕ) (ys : List ℕ) (i : ℕ) → length ss ≤ i → Gathered xs n (take i ss) r ys → Gathered xs n ss r ys
-gather-end xs n ss r ys i h g = subst (λ (z : List ℕ). Gathered xs n z r ys) (take_all i ss h) g
 
 -- where two branches meet, the names differ
 moved : (xs : List ℕ) (n : ℕ) (ss : List ℕ) {r r' : ℕ} {ys ys' : List ℕ} → ys' ≡ ys → r' ≡ r → Gathered xs n ss r ys → Gathered xs n ss r' ys'
@@ -36,17 +28,14 @@ module _ (xs : List ℕ) (n : ℕ) (ss : List ℕ) (r : ℕ) (ys : List ℕ) (i 
   next : gathered (take n xs) (take (i + 1) ss) ≡ behind s (take r ys)
   next = rw (add-one i) (ap (gathered (take n xs)) (take-suc ss i 0 h) ∙ gathered-more (take n xs) (take i ss) s ∙ ap (behind s) (sym g.front))
 
-  module _ (b : Bool) (e : b ≡ mem s (take (r - 0) ys)) where
-    is_mem : mem s (take r ys) ≡ b
-    is_mem = let z : r ≡ r - 0 = omega arith in ap (λ (k : ℕ). mem s (take k ys)) z ∙ sym e
-
+  module _ (b : Bool) (e : b ≡ mem s (take r ys)) where
     -- it stands there
     pub gather-old : b ≡ true → {r' : ℕ} {ys' : List ℕ} → ys' ≡ ys → r' ≡ r → Gathered xs n (take (i + 1) ss) r' ys'
     gather-old t u v = moved xs n (take (i + 1) ss) u v record {
       long = g.long;
       more = g.more;
       few = omega (arith, g.few, length-take-le i ss (omega arith), length-take-le (i + 1) ss (omega arith));
-      front = sym (next ∙ ap (λ (c : Bool). cond c (take r ys) (take r ys ++ (s ∷ []))) (is_mem ∙ t));
+      front = sym (next ∙ ap (λ (c : Bool). cond c (take r ys) (take r ys ++ (s ∷ []))) (sym e ∙ t));
     }
 
     -- it is put there
@@ -55,7 +44,7 @@ module _ (xs : List ℕ) (n : ℕ) (ss : List ℕ) (r : ℕ) (ys : List ℕ) (i 
       long = length-set ys r s ∙ g.long;
       more = omega (arith, g.more);
       few = omega (arith, g.few, length-take-le i ss (omega arith), length-take-le (i + 1) ss (omega arith));
-      front = rw (add-one r) (take-suc-set ys r s (gather-room room)) ∙ sym (next ∙ ap (λ (c : Bool). cond c (take r ys) (take r ys ++ (s ∷ []))) (is_mem ∙ t));
+      front = rw (add-one r) (take-suc-set ys r s (gather-room room)) ∙ sym (next ∙ ap (λ (c : Bool). cond c (take r ys) (take r ys ++ (s ∷ []))) (sym e ∙ t));
     }
 
 -- What is gathered, as the model has it

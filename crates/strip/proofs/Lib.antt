@@ -1,4 +1,5 @@
 pub mod MemberLaws
+pub mod BlockLaws
 pub mod PlaceLaws
 pub mod RiseLaws
 pub mod FindLaws

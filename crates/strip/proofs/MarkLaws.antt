@@ -1,7 +1,8 @@
 -- Marks stay, and the marks of an entry that was seen are there. Assumes nothing.
-use Rattle.std.proofs.Common.{◌≡◌, ℕ, ◌<◌, ◌≤◌, true, false, eqb, List, length, get_or, take, set, sym, ◌∙◌, subst, arith, length-set, get_or-set_other, get_or-set_same, eq-eqb, eqb-true}
+use Rattle.std.proofs.Common.{◌≡◌, ℕ, ◌<◌, true, false, eqb, List, length, get_or, set, sym, ap, ◌∙◌, subst, arith, length-set, get_or-set_other, get_or-set_same, eq-eqb, eqb-true}
 use mathlib.Core.Bool.{false≢true}
 use native.Mathlib.Decide.{ℕ_discrete}
+use lib.Seq.{take-length}
 use Rattle.lists.specs.Lists.{mem}
 use Rattle.lists.proofs.Laws.{and_both, both-and, not-true-false}
 use Rattle.lists.proofs.Each.{Place}
@@ -19,8 +20,8 @@ unfolding marked
 of-marks ms x n f = both-and (eqb (get_or ms (near x) 0) 1) (eqb (get_or ms (far x) 0) 1) (eq-eqb (get_or ms (near x) 0) 1 n) (eq-eqb (get_or ms (far x) 0) 1 f)
 
 -- the tests at the two places, read through their numbers
-pub no_near : (ms : List ℕ) (x n : ℕ) → n ≡ near x → (get_or ms n 0 ≡ 1 → ⊥) → false ≡ marked ms x
-no_near ms x n e h = sym (not-true-false (marked ms x) (λ m. h (rw e (marks-of ms x m).0)))
+pub no_near : (ms : List ℕ) (x n : ℕ) → n ≡ near x → (get_or ms n 0 ≡ 1 → ⊥) → eqb (get_or ms n 0) 1 ≡ marked ms x
+no_near ms x n e h = not-true-false (eqb (get_or ms n 0) 1) (λ t. h (eqb-true (get_or ms n 0) 1 t)) ∙ sym (not-true-false (marked ms x) (λ m. h (rw e (marks-of ms x m).0)))
 
 pub by-far : (ms : List ℕ) (x n f : ℕ) → n ≡ near x → f ≡ far x → get_or ms n 0 ≡ 1 → eqb (get_or ms f 0) 1 ≡ marked ms x
 unfolding marked
@@ -50,7 +51,7 @@ marking ms x n f long e g =
     }
 
 -- an entry without its marks is none of those that were seen
-pub unmarked : (xs : List ℕ) (j : ℕ) (ms : List ℕ) (x : ℕ) → j ≤ length xs → Marks xs j ms → marked ms x ≡ false → mem x (take j xs) ≡ false
-unmarked xs j ms x h all e = not-true-false (mem x (take j xs)) (λ m.
-    let p : Place x (λ i. get_or xs i 0) j = place-before x xs j h m in
+pub unmarked : (xs ms : List ℕ) (x : ℕ) → Marks xs ms → marked ms x ≡ false → mem x xs ≡ false
+unmarked xs ms x all e = not-true-false (mem x xs) (λ m.
+    let p : Place x (λ i. get_or xs i 0) (length xs) = place-before x xs (length xs) (omega arith) (ap (mem x) (take-length xs) ∙ m) in
     false≢true (sym e ∙ subst (λ (k : ℕ). marked ms k ≡ true) p.is (all p.at p.small)))

@@ -1,9 +1,7 @@
 -- What a search of entries finds, and what a change of a strip leaves. Assumes nothing.
-use Rattle.std.specs.Prelude.{◌≡◌, ℕ, suc, ◌+◌, ◌-◌, ◌<◌, ◌≤◌, true, false, cond, List, [], ◌∷◌, ◌++◌, length, take, drop, slice_index, slice_index_or}
+use Rattle.std.specs.Prelude.{◌≡◌, ℕ, suc, ◌+◌, ◌-◌, ◌<◌, ◌≤◌, false, Option, Some, None, cond, List, [], ◌∷◌, ◌++◌, length, take, drop, slice_index, slice_index_or}
 use Rattle.lists.specs.Lists.{mem}
 use Rattle.model.specs.Change.{swap_out}
-use Rattle.strip.specs.declared.Found.{Found}
-use Rattle.strip.specs.declared.Found.TheVariants.{At, Nothing}
 
 -- i is the first place of s
 pub record First (xs : List ℕ) (s i : ℕ) : Type 0 where
@@ -12,21 +10,9 @@ pub record First (xs : List ℕ) (s i : ℕ) : Type 0 where
   pub none : mem s (take i xs) ≡ false
 
 -- the answer of a search: the first place of s, or that there is none
-abbrev pub Finds : List ℕ → ℕ → Found → Type 0
-Finds xs s (At i) = First xs s i
-Finds xs s Nothing = mem s xs ≡ false
-
--- s does not stand before i, and where 8 entries follow it stands in them
-pub record Skipped (xs : List ℕ) (s i : ℕ) : Type 0 where
-  pub inside : i ≤ length xs
-  pub none : mem s (take i xs) ≡ false
-  pub hit : i + 8 ≤ length xs → mem s (take 8 (drop i xs)) ≡ true
-
--- i is the first place of s, or the length where s does not stand
-pub record Placed (xs : List ℕ) (s i : ℕ) : Type 0 where
-  pub inside : i ≤ length xs
-  pub none : mem s (take i xs) ≡ false
-  pub here : i < length xs → slice_index xs i ≡ s
+abbrev pub Finds : List ℕ → ℕ → Option ℕ → Type 0
+Finds xs s (Some i) = First xs s i
+Finds xs s None = mem s xs ≡ false
 
 -- s put behind the first n entries, and what stands further back kept
 pub record Appended (before : List ℕ) (n s : ℕ) (after : List ℕ) : Type 0 where

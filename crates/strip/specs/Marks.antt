@@ -12,9 +12,9 @@ far x = 8192 + x / 8191 % 8191
 unfoldable pub marked : List ℕ → ℕ → Bool
 marked ms x = slice_index ms (near x) == 1 && slice_index ms (far x) == 1
 
--- the marks of the first j entries are there
-abbrev pub Marks : List ℕ → ℕ → List ℕ → Type 0
-Marks xs j ms = (i : ℕ) → i < j → marked ms (slice_index xs i) ≡ true
+-- the marks of the entries are there
+abbrev pub Marks : List ℕ → List ℕ → Type 0
+Marks xs ms = (i : ℕ) → i < length xs → marked ms (slice_index xs i) ≡ true
 
 -- the marks of x are added
 pub record Marking (before : List ℕ) (x : ℕ) (after : List ℕ) : Type 0 where

@@ -7,10 +7,8 @@ fn joined(entries: &[u64]) -> u64
     ensures { (b : ℕ) → result < b → all (λ x. nat_lt x b) entries.now ≡ true }
 {
     let mut bits: u64 = 0;
-    let mut i: usize = 0;
-    while i < entries.len() {
-        bits = entries[i] | bits;
-        i += 1;
+    for entry in entries {
+        bits |= *entry;
     }
     bits
 }
@@ -19,22 +17,12 @@ fn joined(entries: &[u64]) -> u64
 fn each_below(entries: &[u64], bound: u64) -> bool
     ensures { result ≡ all (λ x. nat_lt x bound) entries.now }
 {
-    let mut i: usize = 0;
-    while i < entries.len() {
-        if entries[i] >= bound {
-            return false;
-        }
-        i += 1;
-    }
-    true
+    entries.iter().all(|entry| *entry < bound)
 }
 
 // The joined bits tell at once where the bound is a power of two, as it is in a region that is well formed.
 pub fn below(entries: &[u64], bound: u64) -> bool
     ensures { result ≡ all (λ x. nat_lt x bound) entries.now }
 {
-    if joined(entries) < bound {
-        return true;
-    }
-    each_below(entries, bound)
+    joined(entries) < bound || each_below(entries, bound)
 }

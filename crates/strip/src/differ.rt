@@ -1,10 +1,9 @@
 // Whether entries differ. Each entry leaves two marks; only where both of an entry's marks are there already are the entries before it searched.
-ghost use Rattle.std.specs.Prelude.{◌≡◌, ◌<◌, ◌≤◌, true, false, length, take};
+ghost use Rattle.std.specs.Prelude.{◌≡◌, ◌<◌, true, false, length};
 ghost use Rattle.lists.specs.Lists.{mem, different, Ascending, Distinct};
 ghost use Rattle.strip.specs.Marks.{near, far, marked, Marks, Marking};
 
 use super::search;
-use std::num::wrapping_sub_u64;
 
 // Below this many entries the search of each is quicker than clearing the marks.
 const FEW: usize = 32;
@@ -27,51 +26,38 @@ fn far_of(x: u64) -> usize
 }
 
 // Whether both marks of x are there.
-fn is_marked(marks: &[u8], x: u64) -> bool
-    requires { length marks.now ≡ 16384 }
+fn is_marked(marks: &[u8; 16384], x: u64) -> bool
     ensures { result ≡ marked marks.now x }
 {
-    if marks[near_of(x)] != 1 {
-        return false;
-    }
-    marks[far_of(x)] == 1
+    marks[near_of(x)] == 1 && marks[far_of(x)] == 1
 }
 
 // Leaves the marks of x.
-fn mark(marks: &mut [u8], x: u64)
-    requires { length marks.old ≡ 16384 }
+fn mark(marks: &mut [u8; 16384], x: u64)
     ensures { Marking marks.old x marks.new }
 {
     marks[near_of(x)] = 1;
     marks[far_of(x)] = 1;
 }
 
-// Whether x stands among the first j entries, whose marks are there.
-fn repeats(entries: &[u64], j: usize, marks: &[u8], x: u64) -> bool
-    requires marks_len { length marks.now ≡ 16384 }
-    requires j_in_bounds { (j ≤ length entries.now) × Marks entries.now j marks.now }
-    ensures { result ≡ mem x (take j entries.now) }
+// Whether x stands among the entries before it, whose marks are there.
+fn repeats(before: &[u64], marks: &[u8; 16384], x: u64) -> bool
+    requires { Marks before.now marks.now }
+    ensures { result ≡ mem x before.now }
 {
-    if !is_marked(marks, x) {
-        return false;
-    }
-    search::contains(&entries[0..j], x)
+    is_marked(marks, x) && search::contains(before, x)
 }
 
 // By marks. What the marks hold before does not matter: one too many costs a search.
-fn distinct_marked(entries: &[u64], marks: &mut [u8]) -> bool
-    requires { length marks.old ≡ 16384 }
+fn distinct_marked(entries: &[u64], marks: &mut [u8; 16384]) -> bool
     ensures yes { result ≡ true → Distinct entries.now }
     ensures no { result ≡ false → Distinct entries.now → ⊥ }
 {
-    let mut j: usize = 0;
-    while j < entries.len() {
-        let x = entries[j];
-        if repeats(entries, j, marks, x) {
+    for (j, &x) in entries.iter().enumerate() {
+        if repeats(&entries[..j], marks, x) {
             return false;
         }
         mark(marks, x);
-        j += 1;
     }
     true
 }
@@ -81,13 +67,10 @@ fn distinct_searched(entries: &[u64]) -> bool
     ensures yes { result ≡ true → Distinct entries.now }
     ensures no { result ≡ false → Distinct entries.now → ⊥ }
 {
-    let mut i: usize = 0;
-    while i < entries.len() {
-        let x = entries[i];
-        if search::in_block(&entries[0..i], x) {
+    for (i, &x) in entries.iter().enumerate() {
+        if search::in_block(&entries[..i], x) {
             return false;
         }
-        i += 1;
     }
     true
 }
@@ -97,14 +80,7 @@ fn rising_each(entries: &[u64]) -> bool
     ensures yes { result ≡ true → Ascending entries.now }
     ensures no { result ≡ false → Ascending entries.now → ⊥ }
 {
-    let mut i: usize = 1;
-    while i < entries.len() {
-        if entries[i - 1] >= entries[i] {
-            return false;
-        }
-        i += 1;
-    }
-    true
+    entries.is_sorted_by(|x, y| *x < *y)
 }
 
 // Without a branch for each, so that the compiler takes two to a register. A step up by at most 2^48 leaves the upper 16 bits of the wrapped difference set; 2^15 such steps from below 2^63 do not reach 2^64, so none went round. A suffix has at most 40 bits.
@@ -112,17 +88,12 @@ fn rising_gently(entries: &[u64]) -> bool
     requires { 0 < length entries.now }
     ensures { result ≡ true → Ascending entries.now }
 {
-    if entries.len() > 32768 {
-        return false;
-    }
-    if entries[0] >> 63 != 0 {
+    if entries.len() > 32768 || entries[0] >> 63 != 0 {
         return false;
     }
     let mut common: u64 = u64::MAX;
-    let mut i: usize = 1;
-    while i < entries.len() {
-        common = common & wrapping_sub_u64(entries[i - 1], entries[i]);
-        i += 1;
+    for i in 1..entries.len() {
+        common &= entries[i - 1].wrapping_sub(entries[i]);
     }
     common >> 48 == 65535
 }
@@ -132,12 +103,8 @@ pub fn rising(entries: &[u64]) -> bool
     ensures yes { result ≡ true → Ascending entries.now }
     ensures no { result ≡ false → Ascending entries.now → ⊥ }
 {
-    if entries.len() >= MANY {
-        if rising_each(&entries[0..8]) {
-            if rising_gently(entries) {
-                return true;
-            }
-        }
+    if entries.len() >= MANY && rising_each(&entries[..8]) && rising_gently(entries) {
+        return true;
     }
     rising_each(entries)
 }
@@ -148,36 +115,27 @@ pub fn distinct(entries: &[u64]) -> bool
     ensures no { result ≡ false → Distinct entries.now → ⊥ }
 {
     if rising(entries) {
-        return true;
+        true
+    } else if entries.len() < FEW {
+        distinct_searched(entries)
+    } else {
+        distinct_marked(entries, &mut [0; 16384])
     }
-    if entries.len() < FEW {
-        return distinct_searched(entries);
-    }
-    let mut marks = [0u8; 16384];
-    distinct_marked(entries, &mut marks)
 }
 
-// Whether x stands at place k, before place j.
-fn stands_at(entries: &[u64], j: usize, k: usize, x: u64) -> bool
-    requires { j ≤ length entries.now }
-    ensures { result ≡ true → mem x (take j entries.now) ≡ true }
+// Whether x stands at place k of some entries.
+fn stands_at(entries: &[u64], k: usize, x: u64) -> bool
+    ensures { result ≡ true → mem x entries.now ≡ true }
 {
-    if k >= j {
-        return false;
-    }
-    entries[k] == x
+    k < entries.len() && entries[k] == x
 }
 
 // As repeats, but place k is looked at first.
-fn known(entries: &[u64], j: usize, marks: &[u8], k: usize, x: u64) -> bool
-    requires marks_len { length marks.now ≡ 16384 }
-    requires j_in_bounds { (j ≤ length entries.now) × Marks entries.now j marks.now }
-    ensures { result ≡ mem x (take j entries.now) }
+fn known(before: &[u64], marks: &[u8; 16384], k: usize, x: u64) -> bool
+    requires { Marks before.now marks.now }
+    ensures { result ≡ mem x before.now }
 {
-    if stands_at(entries, j, k, x) {
-        return true;
-    }
-    repeats(entries, j, marks, x)
+    stands_at(before, k, x) || repeats(before, marks, x)
 }
 
 // The place of an entry's hint: a small table, so that little stack is used.
@@ -188,20 +146,15 @@ fn hint_of(x: u64) -> usize
 }
 
 // By marks; an entry is counted where it stands first. A hint says where an entry with the same hint stood last, which spares most entries that repeat a search; a wrong one costs it.
-fn different_marked(entries: &[u64], marks: &mut [u8], hints: &mut [u16]) -> usize
-    requires marks_len { length marks.old ≡ 16384 }
-    requires hints_len { length hints.old ≡ 1024 }
+fn different_marked(entries: &[u64], marks: &mut [u8; 16384], hints: &mut [u16; 1024]) -> usize
     ensures { result ≡ different entries.now }
 {
     let mut n: usize = 0;
-    let mut i: usize = 0;
-    while i < entries.len() {
-        let x = entries[i];
+    for (i, &x) in entries.iter().enumerate() {
         let p = hint_of(x);
-        let seen = known(entries, i, marks, hints[p] as usize, x);
+        let seen = known(&entries[..i], marks, hints[p] as usize, x);
         mark(marks, x);
         hints[p] = (i % 65536) as u16;
-        i += 1;
         if !seen {
             n += 1;
         }
@@ -213,7 +166,5 @@ fn different_marked(entries: &[u64], marks: &mut [u8], hints: &mut [u16]) -> usi
 pub fn different(entries: &[u64]) -> usize
     ensures { result ≡ different entries.now }
 {
-    let mut marks = [0u8; 16384];
-    let mut hints = [0u16; 1024];
-    different_marked(entries, &mut marks, &mut hints)
+    different_marked(entries, &mut [0; 16384], &mut [0; 1024])
 }

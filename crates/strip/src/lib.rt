@@ -6,10 +6,3 @@ pub mod differ;
 pub mod search;
 pub mod store;
 pub mod trievec;
-
-// What a search for an entry finds.
-#[derive(Clone, Copy)]
-pub enum Found {
-    At(usize),
-    Nothing,
-}

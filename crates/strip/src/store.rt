@@ -1,4 +1,4 @@
-// Changes of a strip: the first entries of a strip are a vector's suffixes, and what stands behind them is kept.
+// Changes of a strip: the first entries of a strip are a vector's suffixes, and what stands behind them is kept. A strip and how much of it is in use: nothing is allocated.
 ghost use Rattle.std.specs.Prelude.{◌≡◌, suc, ◌+◌, ◌<◌, ◌≤◌, false, [], ◌∷◌, ◌++◌, length, take, drop, slice_index};
 ghost use Rattle.lists.specs.Lists.{mem};
 ghost use Rattle.strip.specs.Entries.{Appended, Gathered, Removed};
@@ -19,8 +19,7 @@ pub fn remove_at(strip: &mut [u64], len: usize, i: usize)
     requires strip_value { mem (slice_index strip.old i) (take i strip.old) ≡ false }
     ensures { Removed strip.old len i strip.new }
 {
-    let moved = strip[len - 1];
-    strip[i] = moved;
+    strip[i] = strip[len - 1];
 }
 
 // Writes `from` over the first entries.
@@ -28,11 +27,7 @@ pub fn copy_in(strip: &mut [u64], from: &[u64])
     requires { length from.now ≤ length strip.old }
     ensures { strip.new ≡ from.now ++ drop (length from.now) strip.old }
 {
-    let mut i: usize = 0;
-    while i < from.len() {
-        strip[i] = from[i];
-        i += 1;
-    }
+    strip[..from.len()].copy_from_slice(from);
 }
 
 // The first len entries and then s, in an array that the caller lends: what a trie is built of.
@@ -40,7 +35,7 @@ pub fn copy_out(strip: &[u64], len: usize, s: u64, out: &mut [u64])
     requires { (len ≤ length strip.now) × (len < length out.old) }
     ensures { take (suc len) out.new ≡ take len strip.now ++ (s ∷ []) }
 {
-    copy_in(out, &strip[0..len]);
+    copy_in(out, &strip[..len]);
     append(out, len, s);
 }
 
@@ -50,14 +45,11 @@ pub fn gather(strip: &mut [u64], len: usize, suffixes: &[u64]) -> usize
     ensures { Gathered strip.old len suffixes.now result strip.new }
 {
     let mut n = len;
-    let mut i: usize = 0;
-    while i < suffixes.len() {
-        let s = suffixes[i];
-        if !contains(&strip[0..n], s) {
+    for &s in suffixes {
+        if !contains(&strip[..n], s) {
             strip[n] = s;
             n += 1;
         }
-        i += 1;
     }
     n
 }

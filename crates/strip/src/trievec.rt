@@ -3,6 +3,7 @@ ghost use Rattle.std.specs.Prelude.{◌≡◌};
 ghost use Rattle.model.specs.Room.{threshold};
 
 // Kind 0 is free, 1 a vector, 2 a trie; link is a trie's root, or a free slot's place in the stack.
+// Numbers, and no enum: the four words of a record in a region.
 #[derive(Clone, Copy)]
 pub struct TrieVec {
     pub kind: u64,
@@ -30,6 +31,6 @@ impl TrieVec {
     pub fn most() -> usize
         ensures { result ≡ threshold }
     {
-        TrieVec::THRESHOLD
+        Self::THRESHOLD
     }
 }

@@ -11,8 +11,8 @@ use Rattle.model.specs.Room.{trie_nodes}
 use Rattle.region.specs.Tries.{members}
 use Rattle.arena.specs.Arena.{nodes_in, Became}
 use Rattle.arena.proofs.Stacks.{arena-stack, used-fits}
-use Rattle.trie.specs.declared.Inserted.{Inserted}
-use Rattle.trie.specs.declared.Inserted.TheVariants.{New, Old, NoRoom}
+use Rattle.std.specs.Prelude.{Option, Some, None, Result, Ok, Err, IsErr}
+use Rattle.arena.specs.declared.NoRoom.{NoRoom}
 use Rattle.trie.specs.declared.Removed.{Removed}
 use Rattle.trie.specs.declared.Removed.TheVariants.{Gone, Last, Absent}
 use Rattle.trie.specs.Answers.{InsertedAs, RemovedAs}
@@ -25,14 +25,11 @@ module _ (N b used n s : ℕ) (l l' : List ℕ) where
   abbrev ms : List ℕ
   ms = members (nodes_in N l) b n
 
-  pub refused-exactly : (r : Inserted) → InsertedAs N b used n s l r l' → mem s ms ≡ false
-      → (r ≡ NoRoom → N + trie_nodes b ms < used + trie_nodes b (put s ms)) × (N + trie_nodes b ms < used + trie_nodes b (put s ms) → r ≡ NoRoom)
-  refused-exactly (New used') a e = (λ q. absurd (differ q), λ h. absurd (omega (arith, fitted N b used l n (put s ms) used' l' a.1)))
-    where
-      differ : New used' ≡ NoRoom → ⊥
-      differ q = let z : ◌≡◌ {A = ℕ} 0 1 = cc in omega arith
-  refused-exactly Old a e = absurd (true≢false (sym a.0 ∙ e))
-  refused-exactly NoRoom a e = (λ q. a.0.1, λ h. refl)
+  pub refused-exactly : (r : Result (Option ℕ) NoRoom) → InsertedAs N b used n s l r l' → mem s ms ≡ false
+      → (IsErr r → N + trie_nodes b ms < used + trie_nodes b (put s ms)) × (N + trie_nodes b ms < used + trie_nodes b (put s ms) → IsErr r)
+  refused-exactly (Ok (Some used')) a e = (λ q. absurd (true≢false (sym q)), λ h. absurd (omega (arith, fitted N b used l n (put s ms) used' l' a.1)))
+  refused-exactly (Ok None) a e = absurd (true≢false (sym a.0 ∙ e))
+  refused-exactly (Err f) a e = (λ q. a.0.1, λ h. refl)
 
   pub absent-exactly : (r : Removed) → RemovedAs N b used n s l r l' → (r ≡ Absent → mem s ms ≡ false) × (mem s ms ≡ false → r ≡ Absent)
   absent-exactly (Gone used') a = (λ q. absurd (differ q), λ e. absurd (true≢false (sym a.0 ∙ e)))

@@ -15,7 +15,8 @@ use Rattle.arena.proofs.Stays.{Stay, stay-refl, stay-trans, stay-others, others-
 use Rattle.arena.proofs.Setting.{wf-bit, set-others, set-suffixes}
 use Rattle.arena.proofs.Stacks.{stack-arena, stack-stays}
 use Rattle.arena.proofs.Fullness.{full-all, full-bit}
-use Rattle.trie.specs.declared.Inserted.TheVariants.{New, NoRoom}
+use Rattle.std.specs.Prelude.{Some, Ok, Err}
+use Rattle.arena.specs.declared.NoRoom.{NoRoom}
 use Rattle.trie.specs.Walked.{Walked}
 use Rattle.trie.specs.Answers.{InsertedAs}
 use Rattle.trie.proofs.Lookup.{missed}
@@ -28,6 +29,9 @@ pub record Growing (N b used : ℕ) (l₀ : List ℕ) (root s j₀ left : ℕ) (
   pub stay : Stay (nodes_in N l₀) (nodes_in N l) N b
   pub count : left + j₀ ≡ used + j
   pub enough : used + b ≤ N + (j₀ + 1)
+
+pub below-last : {b i : ℕ} → i < b - 1 → i + 1 < b
+below-last h = omega (arith, h)
 
 pub begin : {N b used : ℕ} {l : List ℕ} {root s n j : ℕ} → Open N b used l root s n j → used + b ≤ N + (j + 1) → Growing N b used l root s j used l n j
 begin {N} {b} {l = l} o h = record { state = o; stay = stay-refl (nodes_in N l) N b; count = refl; enough = h }
@@ -52,15 +56,15 @@ module _ {N b used : ℕ} {l₀ : List ℕ} {root s n₀ j₀ : ℕ} (a : Arena 
   needs : trie_nodes b (put s (members (nodes_in N l₀) b root)) ≡ trie_nodes b (members (nodes_in N l₀) b root) + (b - suc j₀)
   needs = nodes-more a.tries.wf a.tries.non-empty rt hs wk clear
 
-  pub no_room : N + (j₀ + 1) < used + b → InsertedAs N b used root s l₀ NoRoom l₀
-  no_room h = ((missed wk clear, omega (arith, needs, wk.small)), refl)
+  pub no_room : (e : NoRoom) → N + (j₀ + 1) < used + b → InsertedAs N b used root s l₀ (Err e) l₀
+  no_room e h = ((missed wk clear, omega (arith, needs, wk.small)), refl)
 
 -- the last bit is set: the arena is whole again
 module _ (N used : ℕ) (l₀ : List ℕ) (root s n₀ j₀ left : ℕ) (l : List ℕ) (n j : ℕ) (l' : List ℕ) (y : ℕ) where
   abbrev Finish : ℕ → Type 0
   Finish b = Arena N b used l₀ → Root (nodes_in N l₀) N root → s < 2 ^ (8 * b) → Walked (nodes_in N l₀) root s b n₀ j₀ → (nodes_in N l₀).bit n₀ (byte_of b s j₀) ≡ 0
       → Growing N b used l₀ root s j₀ left l n j → y ≡ byte_of b s j → BitMade (nodes_in N l) n y 1 (nodes_in N l') → SpareStays N l l' → length l' ≡ length l
-      → InsertedAs N b used root s l₀ (New left) l'
+      → InsertedAs N b used root s l₀ (Ok (Some left)) l'
 
   finish-suc : Finish (suc j)
   finish-suc a rt hs wk clear g ey st keep el =

@@ -14,7 +14,8 @@ use Rattle.region.proofs.Paths.{last}
 use Rattle.arena.specs.Arena.{spare_in, nodes_in, Root, Arena}
 use Rattle.arena.specs.Changes.{SpareStays, BitMade, Hung}
 use Rattle.arena.proofs.Stays.{root-at, both?}
-use Rattle.trie.specs.declared.Inserted.TheVariants.{New, Old, NoRoom}
+use Rattle.std.specs.Prelude.{Some, None, Ok, Err}
+use Rattle.arena.specs.declared.NoRoom.{NoRoom}
 use Rattle.trie.specs.Walked.{Walked}
 use Rattle.trie.specs.Answers.{InsertedAs}
 use Rattle.trie.proofs.Lookup.{there, is_byte, more, found}
@@ -89,14 +90,14 @@ module _ {N b used : ℕ} {l : List ℕ} {root s n x y : ℕ} (g : Begun N b use
     pub child-small : f < N
     child-small = (there g.arena.tries.wf g.is-root next).in-range
 
-    pub old : (nodes_in N l).bit f y ≡ 1 → InsertedAs N b used root s l Old l
+    pub old : (nodes_in N l).bit f y ≡ 1 → InsertedAs N b used root s l (Ok None) l
     old e = (found next g.small (ap ((nodes_in N l).bit f) (sym next-y) ∙ e) last-level, refl)
 
     module _ (is-clear : (nodes_in N l).bit f y ≡ 0) (l' : List ℕ) (st : BitMade (nodes_in N l) f y 1 (nodes_in N l')) (keep : SpareStays N l l') (el : length l' ≡ length l) where
       clear_next : (nodes_in N l).bit f (byte_of b s (b - 2 + 1)) ≡ 0
       clear_next = ap ((nodes_in N l).bit f) (sym next-y) ∙ is-clear
 
-      pub added : used ≤ N → InsertedAs N b used root s l (New used) l'
+      pub added : used ≤ N → InsertedAs N b used root s l (Ok (Some used)) l'
       added fits = finish N used l root s f (b - 2 + 1) used l f (b - 2 + 1) l' y b last-level g.arena g.is-root g.small next clear_next
           (begin (whole g.arena g.is-root next clear_next) (omega (arith, g.two))) next-y st keep el
 
@@ -108,8 +109,8 @@ module _ {N b used : ℕ} {l : List ℕ} {root s n x y : ℕ} (g : Begun N b use
     clear-here : (nodes_in N l).bit n (byte_of b s (b - 2)) ≡ 0
     clear-here = ap ((nodes_in N l).bit n) (sym g.is_x) ∙ is-clear
 
-    pub full : N ≤ used → InsertedAs N b used root s l NoRoom l
-    full h = no_room g.arena g.is-root g.small g.walked clear-here (omega (arith, g.two))
+    pub full : (e : NoRoom) → N ≤ used → InsertedAs N b used root s l (Err e) l
+    full e h = no_room g.arena g.is-root g.small g.walked clear-here e (omega (arith, g.two))
 
     -- and a node is free
     module _ (room : used < N) (f : ℕ) (ef : f ≡ spare_in l (N - (used + 1))) where
@@ -130,7 +131,7 @@ module _ {N b used : ℕ} {l : List ℕ} {root s n x y : ℕ} (g : Begun N b use
         second = down first more-levels f ef l₁ x g.is_x el₁ hung keep₁
 
         module _ (l₂ : List ℕ) (st : BitMade (nodes_in N l₁) f y 1 (nodes_in N l₂)) (keep₂ : SpareStays N l₁ l₂) (el₂ : length l₂ ≡ length l₁) where
-          pub hung-added : InsertedAs N b used root s l (New (used + 1)) l₂
+          pub hung-added : InsertedAs N b used root s l (Ok (Some (used + 1))) l₂
           hung-added = finish N used l root s n (b - 2) (used + 1) l₁ f (b - 2 + 1) l₂ y b last-level g.arena g.is-root g.small g.walked clear-here second next-y st keep₂ el₂
 
           pub hung-stays : Walked (nodes_in N l₂) root s b n (b - 2)

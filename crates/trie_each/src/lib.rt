@@ -1,16 +1,16 @@
 // Inserts of several suffixes into one trie. One that differs from the one before only in its last two bytes begins at the node where that one's other bytes led.
 #![tactic(auto)]
 
-ghost use Rattle.std.specs.Prelude.{◌≡◌, true, ℕ, ◌+◌, ◌-◌, ◌*◌, ◌^◌, ◌<◌, ◌≤◌, length, get_or};
+ghost use Rattle.std.specs.Prelude.{◌≡◌, true, ℕ, ◌+◌, ◌-◌, ◌*◌, ◌^◌, ◌<◌, ◌≤◌, length, get_or, IfSome, Some};
 ghost use Rattle.arena.specs.Arena.{nodes_in, Root, Arena};
 ghost use Rattle.trie.specs.Walked.{Walked};
 ghost use Rattle.trie.specs.Answers.{InsertedAs};
 ghost use Rattle.trie_each.specs.Each.{InsertedEach};
-ghost use Rattle.trie_each.specs.Taking.{Beside, Told, Took};
+ghost use Rattle.trie_each.specs.Taking.{Beside, NodeAbove, Told, TookAs};
 
-use arena::{read, write};
+use arena::{NoRoom, Shape, read, write};
 use sliced_int::byte;
-use trie::{Inserted, insert, lead};
+use trie::{insert, lead};
 
 // How many suffixes were taken, how many of them were new, and the nodes in use afterwards.
 #[derive(Clone, Copy)]
@@ -20,170 +20,135 @@ pub struct Many {
     pub used: usize,
 }
 
-// How one suffix went: whether there was room, 1 if it was new and else 0, the nodes in use, and, if there was room and b is 2 or more, the node above it.
+// How one suffix went for which there was room: whether it was new, the nodes in use, and, if there are two levels or more, the node to which all but its last two bytes lead.
 #[derive(Clone, Copy)]
 struct One {
-    ok: bool,
-    new: usize,
+    new: bool, // no Option with `used` inside: whether it is new and the nodes in use are two answers that always come together
     used: usize,
-    n: usize,
+    above: Option<usize>,
 }
 
 // Inserts the suffix from node n on, to which all but its last two bytes lead. n stays that node.
 fn insert_from(
     arena: &mut [u64],
-    slots: usize,
+    shape: Shape,
     used: usize,
-    b: usize,
     root: usize,
     suffix: u64,
     n: usize,
-) -> Inserted
-    requires arena { Arena slots b used arena.old }
-    requires root { Root (nodes_in slots arena.old) slots root }
-    requires le_b { 2 ≤ b }
-    requires b_bound { b ≤ 5 }
-    requires suffix_bound { suffix < 2 ^ (8 * b) }
-    requires walked { Walked (nodes_in slots arena.old) root suffix b n (b - 2) }
-    ensures inserted { InsertedAs slots b used root suffix arena.old result arena.new }
-    ensures stays { Walked (nodes_in slots arena.new) root suffix b n (b - 2) }
+) -> Result<Option<usize>, NoRoom>
+    requires arena { Arena shape.slots shape.b used arena.old }
+    requires root { Root (nodes_in shape.slots arena.old) shape.slots root }
+    requires le_b { 2 ≤ shape.b }
+    requires suffix_bound { suffix < 2 ^ (8 * shape.b) }
+    requires walked { Walked (nodes_in shape.slots arena.old) root suffix shape.b n (shape.b - 2) }
+    ensures inserted { InsertedAs shape.slots shape.b used root suffix arena.old result arena.new }
+    ensures stays { Walked (nodes_in shape.slots arena.new) root suffix shape.b n (shape.b - 2) }
 {
+    let Shape { slots, b } = shape;
     let x = byte(suffix, b, b - 2);
     let y = byte(suffix, b, b - 1);
     if read::test(arena, slots, n, x) {
         let f = read::child(arena, slots, n, x) as usize;
         if read::test(arena, slots, f, y) {
-            return Inserted::Old;
+            return Ok(None);
         }
         write::set_bit(arena, slots, f, y);
-        return Inserted::New(used);
+        return Ok(Some(used));
     }
     if used >= slots {
-        return Inserted::NoRoom;
+        return Err(NoRoom);
     }
     let f = read::spare(arena, slots, slots - (used + 1)) as usize;
     write::hang(arena, slots, n, x, f, b - 1);
     write::set_bit(arena, slots, f, y);
-    Inserted::New(used + 1)
+    Ok(Some(used + 1))
 }
 
-// True only if there is a suffix before place i, and the one at i has its bytes but for the last two.
-fn beside(suffixes: &[u64], b: usize, i: usize) -> bool
+// The node above the suffix before place i, if it is above the one at i too: they have the same bytes but for the last two.
+fn beside(suffixes: &[u64], i: usize, above: Option<usize>) -> Option<usize>
     requires { i < length suffixes.now }
-    ensures { result ≡ true → Beside b suffixes.now i }
+    ensures { IfSome result (λ n. (above ≡ Some n) × Beside suffixes.now i) }
 {
-    if b < 2 {
-        return false;
-    }
     if i == 0 {
-        return false;
+        return None;
     }
-    suffixes[i] >> 16 == suffixes[i - 1] >> 16
+    if suffixes[i] >> 16 == suffixes[i - 1] >> 16 {
+        return above;
+    }
+    None
 }
 
-// What an insert's answer says, with a node passed on.
-fn told(done: Inserted, used: usize, n: usize) -> One
-    ensures { Told used n done result }
+// What an insert says for which there was room, with the node above passed on.
+fn told(inserted: Option<usize>, used: usize, above: Option<usize>) -> One
+    ensures { Told used above inserted result }
 {
-    match done {
-        Inserted::New(more) => One {
-            ok: true,
-            new: 1,
-            used: more,
-            n,
-        },
-        Inserted::Old => One {
-            ok: true,
-            new: 0,
-            used,
-            n,
-        },
-        Inserted::NoRoom => One {
-            ok: false,
-            new: 0,
-            used,
-            n,
-        },
+    One {
+        new: inserted.is_some(),
+        used: inserted.unwrap_or(used),
+        above,
     }
 }
 
-// Inserts one suffix. If it is near, n is the node above it. The answer holds that node if b is 2 or more.
+// Inserts one suffix, from the node above it if that is known. The answer holds that node.
 fn take_one(
     arena: &mut [u64],
-    slots: usize,
+    shape: Shape,
     used: usize,
-    b: usize,
     root: usize,
     suffix: u64,
-    near: bool,
-    n: usize,
-) -> One
-    requires arena { Arena slots b used arena.old }
-    requires root { Root (nodes_in slots arena.old) slots root }
-    requires le_b { 1 ≤ b }
-    requires b_bound { b ≤ 5 }
-    requires suffix_bound { suffix < 2 ^ (8 * b) }
-    requires le_b_2 { near ≡ true → (2 ≤ b) × Walked (nodes_in slots arena.old) root suffix b n (b - 2) }
-    ensures { Took slots b used root suffix arena.old result arena.new }
+    above: Option<usize>,
+) -> Result<One, NoRoom>
+    requires arena { Arena shape.slots shape.b used arena.old }
+    requires root { Root (nodes_in shape.slots arena.old) shape.slots root }
+    requires suffix_bound { suffix < 2 ^ (8 * shape.b) }
+    requires above { NodeAbove (nodes_in shape.slots arena.old) root suffix shape.b above }
+    ensures { TookAs shape.slots shape.b used root suffix arena.old result arena.new }
 {
-    if near {
-        let done = insert_from(arena, slots, used, b, root, suffix, n);
-        return told(done, used, n);
+    if let Some(n) = above {
+        let inserted = insert_from(arena, shape, used, root, suffix, n)?;
+        return Ok(told(inserted, used, Some(n)));
     }
-    let done = insert(arena, slots, used, b, root, suffix);
-    let one = told(done, used, root);
-    if !one.ok {
-        return one;
+    let inserted = insert(arena, shape, used, root, suffix)?;
+    if shape.b < 2 {
+        return Ok(told(inserted, used, None));
     }
-    if b < 2 {
-        return one;
-    }
-    One {
-        ok: one.ok,
-        new: one.new,
-        used: one.used,
-        n: lead(arena, slots, b, root, suffix, b - 2),
-    }
+    let n = lead(arena, shape, root, suffix, shape.b - 2);
+    Ok(told(inserted, used, Some(n)))
 }
 
 // Inserts the suffixes in order, until one finds no room. Ascending ones are quickest: those that lie side by side share a node.
 pub fn insert_each(
     arena: &mut [u64],
-    slots: usize,
+    shape: Shape,
     used: usize,
-    b: usize,
     root: usize,
     suffixes: &[u64],
 ) -> Many
-    requires arena { Arena slots b used arena.old }
-    requires root { Root (nodes_in slots arena.old) slots root }
-    requires le_b { 1 ≤ b }
-    requires b_bound { b ≤ 5 }
-    requires by_index { (i : ℕ) → i < length suffixes.now → get_or suffixes.now i 0 < 2 ^ (8 * b) }
-    ensures { InsertedEach slots b used root suffixes.now arena.old result arena.new }
+    requires arena { Arena shape.slots shape.b used arena.old }
+    requires root { Root (nodes_in shape.slots arena.old) shape.slots root }
+    requires by_index { (i : ℕ) → i < length suffixes.now → get_or suffixes.now i 0 < 2 ^ (8 * shape.b) }
+    ensures { InsertedEach shape.slots shape.b used root suffixes.now arena.old result arena.new }
 {
     let mut added: usize = 0;
     let mut left = used;
     // The node above the suffix before, where it is known.
-    let mut n = root;
-    let mut i: usize = 0;
-    while i < suffixes.len() {
-        let near = beside(suffixes, b, i);
-        let one = take_one(arena, slots, left, b, root, suffixes[i], near, n);
-        if !one.ok {
+    let mut above = None;
+    for (i, &suffix) in suffixes.iter().enumerate() {
+        let near = beside(suffixes, i, above);
+        let Ok(one) = take_one(arena, shape, left, root, suffix, near) else {
             return Many {
                 done: i,
                 added,
                 used: left,
             };
-        }
-        added += one.new;
+        };
+        added += one.new as usize;
         left = one.used;
-        n = one.n;
-        i += 1;
+        above = one.above;
     }
     Many {
-        done: i,
+        done: suffixes.len(),
         added,
         used: left,
     }

@@ -1,13 +1,13 @@
 -- The members of a trie taken out from the least on: each but the last is gone, and with the last the trie. Assumes nothing.
 use Prim.Native.Nat.{ℕ, suc, ◌+◌, ◌-◌, ◌/◌, ◌^◌, ◌≤◌, ◌<◌}
 use mathlib.Core.Path.{◌≡◌, refl, sym, ap, ◌∙◌, subst}
-use mathlib.Core.Bool.{true, false, true≢false}
+use mathlib.Core.Bool.{true, false}
 use mathlib.Core.List.{List, [], ◌∷◌, ◌++◌}
 use native.Mathlib.Omega.{arith}
 use native.Mathlib.Numerals.{add-one}
 use lib.Dec.{eqb}
 use lib.ListN.{length, take, drop, get_or, length-append, length-drop}
-use lib.Seq.{drop-cons, take_all, take_at, length-take-le, get_or-take}
+use lib.Seq.{drop-cons, take_all, take_at}
 use Rattle.lists.specs.Lists.{mem, without, Ascending}
 use Rattle.lists.proofs.Laws.{or_left, or-none, eqb-self, mem-some, over-not-mem, source}
 use Rattle.model.specs.Room.{trie_nodes}
@@ -17,9 +17,6 @@ use Rattle.region.proofs.Listing.{members-ascend}
 use Rattle.region.proofs.Leading.{heads, path-heads}
 use Rattle.arena.specs.Arena.{nodes_in, Root, Arena, Became, Vanished}
 use Rattle.arena.proofs.Stays.{root-at, others-trans}
-use Rattle.trie.specs.Answers.{RemovedAs}
-use Rattle.trie.specs.declared.Removed.{Removed}
-use Rattle.trie.specs.declared.Removed.TheVariants.{Gone, Last, Absent}
 use Rattle.trie_walk.specs.Pour.{window}
 use Rattle.arena.proofs.Becoming.{became-same, became-then}
 
@@ -46,97 +43,66 @@ without-none s (y ∷ ys) m = let z = or-none (eqb s y) (mem s ys) m in rw z.0 (
 without-head : (s : ℕ) (xs : List ℕ) → mem s xs ≡ false → without s (s ∷ xs) ≡ xs
 without-head s xs m = rw (eqb-self s) (without-none s xs m)
 
--- what a removal answers
-module _ (N b used n s : ℕ) (l l' : List ℕ) where
-  abbrev ms : List ℕ
-  ms = members (nodes_in N l) b n
-
-  abbrev As : Removed → Type 0
-  As r = RemovedAs N b used n s l r l'
-
-  pub less-gone : (r : Removed) (u : ℕ) → r ≡ Gone u → As r → Became N b used l n (without s ms) u l'
-  less-gone r u e a = (subst As e a).1
-
-  pub less-last : (r : Removed) (u : ℕ) → r ≡ Last u → As r → 2 ≤ length ms → Became N b used l n (without s ms) u l'
-  less-last r u e a h = let z : length ms ≡ 1 = ap length (subst As e a).0 in absurd (omega arith)
-
-  pub less-absent : (r : Removed) → r ≡ Absent → As r → mem s ms ≡ true → Became N b used l n (without s ms) used l'
-  less-absent r e a m = absurd (true≢false (sym m ∙ (subst As e a).0))
-
-  pub only-last : (r : Removed) (u : ℕ) → r ≡ Last u → As r → Vanished N b used l n u l'
-  only-last r u e a = (subst As e a).1
-
-  pub only_gone : (r : Removed) (u : ℕ) → r ≡ Gone u → As r → ms ≡ s ∷ [] → Vanished N b used l n u l'
-  only_gone r u e a q =
-      let g : Became N b used l n (without s ms) u l' = (subst As e a).1 in
-      let z : length (members (nodes_in N l') b n) ≡ 0 = ap length (g.suffixes ∙ ap (without s) q ∙ without-head s [] refl) in
-      let o = has_some N b u l' n g.arena g.root in
-      absurd (omega arith)
-
-  pub only-there : ms ≡ s ∷ [] → mem s ms ≡ true
-  only-there q = rw q (or_left (eqb s s) false (eqb-self s))
-
-  pub only-absent : (r : Removed) → r ≡ Absent → As r → ms ≡ s ∷ [] → Vanished N b used l n used l'
-  only-absent r e a q = absurd (true≢false (sym (only-there q) ∙ (subst As e a).0))
+-- the only member gone, the trie is: none is left without a member
+pub only_gone : (N b used n s : ℕ) (l : List ℕ) (u : ℕ) (l' : List ℕ) → Became N b used l n (without s (members (nodes_in N l) b n)) u l' → members (nodes_in N l) b n ≡ s ∷ [] → Vanished N b used l n u l'
+only_gone N b used n s l u l' g q =
+    let z : length (members (nodes_in N l') b n) ≡ 0 = ap length (g.suffixes ∙ ap (without s) q ∙ without-head s [] refl) in
+    let o = has_some N b u l' n g.arena g.root in
+    absurd (omega arith)
 
 -- i members are out: the others are those of the output from i on
-pub record Reaped (N b used : ℕ) (l₀ : List ℕ) (root n : ℕ) (out : List ℕ) (i left : ℕ) (l : List ℕ) : Type 0 where
-  pub inside : i < n
-  pub long : n ≤ length out
-  pub now : Became N b used l₀ root (drop i (take n out)) left l
+pub record Reaped (N b used : ℕ) (l₀ : List ℕ) (root : ℕ) (out : List ℕ) (i left : ℕ) (l : List ℕ) : Type 0 where
+  pub inside : i < length out
+  pub now : Became N b used l₀ root (drop i out) left l
 
-pub reaped-from : (N b used : ℕ) (l : List ℕ) (root n : ℕ) (out : List ℕ) (i : ℕ) → Arena N b used l → Root (nodes_in N l) N root → n ≤ length out → i < n → members (nodes_in N l) b root ≡ drop i (take n out) → Reaped N b used l root n out i used l
-reaped-from N b used l root n out i a rt h hi e = record { inside = hi; long = h; now = became-same N b used l root (drop i (take n out)) a rt e }
+pub reaped-from : (N b used : ℕ) (l : List ℕ) (root : ℕ) (out : List ℕ) (i : ℕ) → Arena N b used l → Root (nodes_in N l) N root → i < length out → members (nodes_in N l) b root ≡ drop i out → Reaped N b used l root out i used l
+reaped-from N b used l root out i a rt hi e = record { inside = hi; now = became-same N b used l root (drop i out) a rt e }
 
-pub reaped-none : (N b used : ℕ) (l : List ℕ) (root n : ℕ) (out : List ℕ) → Arena N b used l → Root (nodes_in N l) N root → n ≤ length out → members (nodes_in N l) b root ≡ take n out → Reaped N b used l root n out 0 used l
-reaped-none N b used l root n out a rt h e =
+pub reaped-none : (N b used : ℕ) (l : List ℕ) (root : ℕ) (out : List ℕ) → Arena N b used l → Root (nodes_in N l) N root → members (nodes_in N l) b root ≡ out → Reaped N b used l root out 0 used l
+reaped-none N b used l root out a rt e =
     let s = has_some N b used l root a rt in
-    let q : length (members (nodes_in N l) b root) ≡ n = ap length e ∙ length-take-le n out h in
-    reaped-from N b used l root n out 0 a rt h (omega arith) e
+    let q : length (members (nodes_in N l) b root) ≡ length out = ap length e in
+    reaped-from N b used l root out 0 a rt (omega arith) e
 
-module _ {N b used : ℕ} {l₀ : List ℕ} {root n : ℕ} {out : List ℕ} {i left : ℕ} {l : List ℕ} (g : Reaped N b used l₀ root n out i left l) where
+module _ {N b used : ℕ} {l₀ : List ℕ} {root : ℕ} {out : List ℕ} {i left : ℕ} {l : List ℕ} (g : Reaped N b used l₀ root out i left l) where
   abbrev have : List ℕ
   have = members (nodes_in N l) b root
 
-  first : have ≡ get_or out i 0 ∷ drop (i + 1) (take n out)
+  first : have ≡ get_or out i 0 ∷ drop (i + 1) out
   first =
-      let h : i < n = g.inside in
-      let q : n ≤ length out = g.long in
-      let len : length (take n out) ≡ n = length-take-le n out q in
-      let d : drop i (take n out) ≡ get_or (take n out) i 0 ∷ drop (suc i) (take n out) = drop-cons (take n out) i 0 (omega arith) in
-      g.now.suffixes ∙ d ∙ ap (λ (x : ℕ). x ∷ drop (suc i) (take n out)) (get_or-take n out i 0 h) ∙ ap (λ (k : ℕ). get_or out i 0 ∷ drop k (take n out)) (sym (add-one i))
+      g.now.suffixes ∙ drop-cons out i 0 g.inside ∙ ap (λ (k : ℕ). get_or out i 0 ∷ drop k out) (sym (add-one i))
 
-  later : mem (get_or out i 0) (drop (i + 1) (take n out)) ≡ false
-  later = over-not-mem (get_or out i 0) (drop (i + 1) (take n out)) (subst Ascending first (members-ascend (nodes_in N l) b root)).0
+  later : mem (get_or out i 0) (drop (i + 1) out) ≡ false
+  later = over-not-mem (get_or out i 0) (drop (i + 1) out) (subst Ascending first (members-ascend (nodes_in N l) b root)).0
 
-  rest-length : length (drop (i + 1) (take n out)) ≡ n - (i + 1)
-  rest-length = length-drop (i + 1) (take n out) ∙ ap (λ (k : ℕ). k - (i + 1)) (length-take-le n out g.long)
+  rest-length : length (drop (i + 1) out) ≡ length out - (i + 1)
+  rest-length = length-drop (i + 1) out
 
   pub least : mem (get_or out i 0) have ≡ true
-  least = rw first (or_left (eqb (get_or out i 0) (get_or out i 0)) (mem (get_or out i 0) (drop (i + 1) (take n out))) (eqb-self (get_or out i 0)))
+  least = rw first (or_left (eqb (get_or out i 0) (get_or out i 0)) (mem (get_or out i 0) (drop (i + 1) out)) (eqb-self (get_or out i 0)))
 
-  pub not-only : i + 1 < n → 2 ≤ length have
-  not-only h = let e : length have ≡ suc (length (drop (i + 1) (take n out))) = ap length first in let r = rest-length in omega arith
+  pub not-only : i + 1 < length out → 2 ≤ length have
+  not-only h = let e : length have ≡ suc (length (drop (i + 1) out)) = ap length first in let r = rest-length in omega arith
 
-  pub last-left : n ≤ i + 1 → have ≡ get_or out i 0 ∷ []
-  last-left h = first ∙ ap (λ (r : List ℕ). get_or out i 0 ∷ r) (none (drop (i + 1) (take n out)) (let r = rest-length in omega arith))
+  pub last-left : length out ≤ i + 1 → have ≡ get_or out i 0 ∷ []
+  last-left h = first ∙ ap (λ (r : List ℕ). get_or out i 0 ∷ r) (none (drop (i + 1) out) (let r = rest-length in omega arith))
     where
       none : (xs : List ℕ) → length xs ≡ 0 → xs ≡ []
       none [] e = refl
       none (x ∷ xs) e = absurd (omega arith)
 
   -- with the least taken out, the next are left
-  pub rest : without (get_or out i 0) have ≡ drop (i + 1) (take n out)
-  rest = ap (without (get_or out i 0)) first ∙ without-head (get_or out i 0) (drop (i + 1) (take n out)) later
+  pub rest : without (get_or out i 0) have ≡ drop (i + 1) out
+  rest = ap (without (get_or out i 0)) first ∙ without-head (get_or out i 0) (drop (i + 1) out) later
 
-  pub reaped-on : (k : ℕ) → k < n → (u : ℕ) (l' : List ℕ) → Became N b left l root (drop k (take n out)) u l' → Reaped N b used l₀ root n out k u l'
-  reaped-on k h u l' a = record { inside = h; long = g.long; now = became-then N b used l₀ root (drop i (take n out)) left l (drop k (take n out)) u l' g.now a }
+  pub reaped-on : (k : ℕ) → k < length out → (u : ℕ) (l' : List ℕ) → Became N b left l root (drop k out) u l' → Reaped N b used l₀ root out k u l'
+  reaped-on k h u l' a = record { inside = h; now = became-then N b used l₀ root (drop i out) left l (drop k out) u l' g.now a }
 
-  pub reaped-more : i + 1 < n → (u : ℕ) (l' : List ℕ) → Became N b left l root (without (get_or out i 0) have) u l' → Reaped N b used l₀ root n out (i + 1) u l'
+  pub reaped-more : i + 1 < length out → (u : ℕ) (l' : List ℕ) → Became N b left l root (without (get_or out i 0) have) u l' → Reaped N b used l₀ root out (i + 1) u l'
   reaped-more h u l' a = reaped-on (i + 1) h u l' (subst (λ (ss : List ℕ). Became N b left l root ss u l') rest a)
 
   pub reaped-all : (u : ℕ) (l' : List ℕ) → Vanished N b left l root u l' → Vanished N b used l₀ root u l'
-  reaped-all u l' a = vanished-then N b used l₀ root (drop i (take n out)) left l u l' g.now a
+  reaped-all u l' a = vanished-then N b used l₀ root (drop i out) left l u l' g.now a
 
 -- the walk has written all members
 module _ (ms out : List ℕ) (h : length ms ≤ length out) where

@@ -17,9 +17,6 @@ use Rattle.arena.specs.Arena.{nodes_in, Root, Arena, Became, Planted}
 use Rattle.arena.proofs.Stays.{others-trans}
 use Rattle.arena.proofs.Becoming.{became-same, became-then}
 use Rattle.trie.proofs.Room.{nodes-single}
-use Rattle.trie.specs.Answers.{InsertedAs}
-use Rattle.trie.specs.declared.Inserted.{Inserted}
-use Rattle.trie.specs.declared.Inserted.TheVariants.{New, Old, NoRoom}
 
 pub planted-then : (N b used : ℕ) (l : List ℕ) (c n : ℕ) (ss : List ℕ) (u₁ : ℕ) (l₁ : List ℕ) (ts : List ℕ) (u₂ : ℕ) (l₂ : List ℕ) → Planted N b used l c n ss u₁ l₁ → Became N b u₁ l₁ n ts u₂ l₂ → Planted N b used l c n ts u₂ l₂
 planted-then N b used l c n ss u₁ l₁ ts u₂ l₂ p q = record {
@@ -31,20 +28,6 @@ planted-then N b used l c n ss u₁ l₁ ts u₂ l₂ p q = record {
   others = others-trans p.others q.others;
   room = let e : trie_nodes b (members (nodes_in N l₁) b n) ≡ trie_nodes b ss = ap (trie_nodes b) p.suffixes in omega (arith, p.room, q.room);
 }
-
--- what an insert answers where the suffix is new and there is room
-module _ (N b used n s : ℕ) (l l' : List ℕ) where
-  abbrev ms : List ℕ
-  ms = members (nodes_in N l) b n
-
-  pub was-new : (r : Inserted) (u : ℕ) → r ≡ New u → InsertedAs N b used n s l r l' → Became N b used l n (put s ms) u l'
-  was-new r u e a = (subst (λ (q : Inserted). InsertedAs N b used n s l q l') e a).1
-
-  pub not-old : (r : Inserted) → r ≡ Old → InsertedAs N b used n s l r l' → mem s ms ≡ false → Became N b used l n (put s ms) used l'
-  not-old r e a m = absurd (false≢true (sym m ∙ (subst (λ (q : Inserted). InsertedAs N b used n s l q l') e a).0))
-
-  pub not_full : (r : Inserted) → r ≡ NoRoom → InsertedAs N b used n s l r l' → used + trie_nodes b (put s ms) ≤ N + trie_nodes b ms → Became N b used l n (put s ms) used l'
-  not_full r e a h = let z = (subst (λ (q : Inserted). InsertedAs N b used n s l q l') e a).0.1 in absurd (omega arith)
 
 -- Room
 

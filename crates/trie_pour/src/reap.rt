@@ -4,89 +4,44 @@ ghost use Rattle.lists.specs.Lists.{mem, without};
 ghost use Rattle.region.specs.Tries.{members};
 ghost use Rattle.arena.specs.Arena.{nodes_in, Root, Arena, Became, Vanished};
 
-use arena::write;
+use arena::{Shape, write};
 use sliced_int::byte;
 use trie::{Removed, lead};
 
-// Removes a member that is not the only one. Answers the nodes in use afterwards.
-fn one_less(
-    arena: &mut [u64],
-    slots: usize,
-    used: usize,
-    b: usize,
-    root: usize,
-    suffix: u64,
-) -> usize
-    requires arena { Arena slots b used arena.old }
-    requires root { Root (nodes_in slots arena.old) slots root }
-    requires le_b { 1 ≤ b }
-    requires b_bound { b ≤ 5 }
-    requires root_value { mem suffix (members (nodes_in slots arena.old) b root) ≡ true }
-    requires in_bounds { 2 ≤ length (members (nodes_in slots arena.old) b root) }
-    ensures { Became slots b used arena.old root (without suffix (members (nodes_in slots arena.old) b root)) result arena.new }
+// Removes a member, and with the only one the trie. Answers the nodes in use afterwards.
+fn one_less(arena: &mut [u64], shape: Shape, used: usize, root: usize, suffix: u64) -> usize
+    requires arena { Arena shape.slots shape.b used arena.old }
+    requires root { Root (nodes_in shape.slots arena.old) shape.slots root }
+    requires root_value { mem suffix (members (nodes_in shape.slots arena.old) shape.b root) ≡ true }
+    ensures became { 2 ≤ length (members (nodes_in shape.slots arena.old) shape.b root) → Became shape.slots shape.b used arena.old root (without suffix (members (nodes_in shape.slots arena.old) shape.b root)) result arena.new }
+    ensures vanished { members (nodes_in shape.slots arena.old) shape.b root ≡ suffix ∷ [] → Vanished shape.slots shape.b used arena.old root result arena.new }
 {
-    let done = trie::remove(arena, slots, used, b, root, suffix);
-    match done {
-        Removed::Gone(left) => left,
-        Removed::Last(left) => left,
-        Removed::Absent => used,
-    }
-}
-
-// Removes the only member. Answers the nodes in use afterwards.
-fn only_one(
-    arena: &mut [u64],
-    slots: usize,
-    used: usize,
-    b: usize,
-    root: usize,
-    suffix: u64,
-) -> usize
-    requires arena { Arena slots b used arena.old }
-    requires root { Root (nodes_in slots arena.old) slots root }
-    requires le_b { 1 ≤ b }
-    requires b_bound { b ≤ 5 }
-    requires root_value { members (nodes_in slots arena.old) b root ≡ suffix ∷ [] }
-    ensures { Vanished slots b used arena.old root result arena.new }
-{
-    let done = trie::remove(arena, slots, used, b, root, suffix);
-    match done {
-        Removed::Gone(left) => left,
-        Removed::Last(left) => left,
-        Removed::Absent => used,
+    match trie::remove(arena, shape, used, root, suffix) {
+        Removed::Gone(left) | Removed::Last(left) => left,
+        Removed::Absent => used, // not a member's
     }
 }
 
 // Removes the members from place i on that have the leading bytes of the one there, all but the last: they share a node, and it keeps a bit, so none is freed. Answers the place of that last one.
-fn thin(
-    arena: &mut [u64],
-    slots: usize,
-    used: usize,
-    b: usize,
-    root: usize,
-    out: &[u64],
-    n: usize,
-    i: usize,
-) -> usize
-    requires arena { Arena slots b used arena.old }
-    requires root { Root (nodes_in slots arena.old) slots root }
-    requires le_b { 1 ≤ b }
-    requires b_bound { b ≤ 5 }
-    requires n_in_bounds { n ≤ length out.now }
-    requires i_bound { i + 1 < n }
-    requires root_value { members (nodes_in slots arena.old) b root ≡ drop i (take n out.now) }
+fn thin(arena: &mut [u64], shape: Shape, used: usize, root: usize, out: &[u64], i: usize) -> usize
+    requires arena { Arena shape.slots shape.b used arena.old }
+    requires root { Root (nodes_in shape.slots arena.old) shape.slots root }
+    requires i_bound { i + 1 < length out.now }
+    requires root_value { members (nodes_in shape.slots arena.old) shape.b root ≡ drop i out.now }
     requires i_value { get_or out.now (i + 1) 0 / 256 ≡ get_or out.now i 0 / 256 }
     ensures after { i < result }
-    ensures inside { result < n }
-    ensures became { Became slots b used arena.old root (drop result (take n out.now)) used arena.new }
+    ensures inside { result < length out.now }
+    ensures became { Became shape.slots shape.b used arena.old root (drop result out.now) used arena.new }
 {
-    let node = lead(arena, slots, b, root, out[i], b - 1);
+    let Shape { slots, b } = shape;
+    let node = lead(arena, shape, root, out[i], b - 1);
     let head = out[i] >> 8;
     let mut k = i;
+    // No `for`: a turn comes before each test, and the range's end would need an answer of its own.
     loop {
         write::clear_bit(arena, slots, node, byte(out[k], b, b - 1));
         k += 1;
-        if k + 1 == n {
+        if k + 1 == out.len() {
             return k;
         }
         if out[k + 1] >> 8 != head {
@@ -95,33 +50,23 @@ fn thin(
     }
 }
 
-// Removes the members, which are the first n entries of the output. Answers the nodes in use afterwards.
-pub(crate) fn empty(
-    arena: &mut [u64],
-    slots: usize,
-    used: usize,
-    b: usize,
-    root: usize,
-    out: &[u64],
-    n: usize,
-) -> usize
-    requires arena { Arena slots b used arena.old }
-    requires root { Root (nodes_in slots arena.old) slots root }
-    requires le_b { 1 ≤ b }
-    requires b_bound { b ≤ 5 }
-    requires n_in_bounds { n ≤ length out.now }
-    requires root_value { members (nodes_in slots arena.old) b root ≡ take n out.now }
-    ensures { Vanished slots b used arena.old root result arena.new }
+// Removes the members, which are the entries of `out`. Answers the nodes in use afterwards.
+pub(crate) fn empty(arena: &mut [u64], shape: Shape, used: usize, root: usize, out: &[u64]) -> usize
+    requires arena { Arena shape.slots shape.b used arena.old }
+    requires root { Root (nodes_in shape.slots arena.old) shape.slots root }
+    requires root_value { members (nodes_in shape.slots arena.old) shape.b root ≡ out.now }
+    ensures { Vanished shape.slots shape.b used arena.old root result arena.new }
 {
     let mut left = used;
     let mut i: usize = 0;
-    while i + 1 < n {
+    // A `while`: a step is one place, or as many as `thin` took.
+    while i + 1 < out.len() {
         if out[i + 1] >> 8 == out[i] >> 8 {
-            i = thin(arena, slots, left, b, root, out, n, i);
+            i = thin(arena, shape, left, root, out, i);
             continue;
         }
-        left = one_less(arena, slots, left, b, root, out[i]);
+        left = one_less(arena, shape, left, root, out[i]);
         i += 1;
     }
-    only_one(arena, slots, left, b, root, out[i])
+    one_less(arena, shape, left, root, out[i])
 }

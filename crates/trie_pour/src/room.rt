@@ -22,10 +22,8 @@ fn leads(strip: &[u64], b: usize, j: usize, out: &mut [u64])
     requires strip_in_bounds { length strip.now ≤ length out.old }
     ensures { take (length strip.now) out.new ≡ map (λ s. s / 256 ^ (b - j)) strip.now }
 {
-    let mut i: usize = 0;
-    while i < strip.len() {
-        out[i] = lead(strip[i], b, j);
-        i += 1;
+    for (i, &s) in strip.iter().enumerate() {
+        out[i] = lead(s, b, j);
     }
 }
 
@@ -53,19 +51,17 @@ fn nodes(strip: &[u64], b: usize) -> usize
     ensures { result ≡ trie_nodes b strip.now }
 {
     let mut n: usize = 1;
-    let mut j: usize = 1;
-    while j + 1 < b {
+    for j in 1..b - 1 {
         n += heads(strip, b, j);
-        j += 1;
     }
     // The last length apart: what is called at two places is not merged into its callers, so that an insert sets up no stack for `heads`.
-    if j < b {
-        n += heads(strip, b, j);
+    if b > 1 {
+        n += heads(strip, b, b - 1);
     }
     n
 }
 
-// Whether the nodes that the suffixes need are at most `room`. They are no more than the root and b - 1 for each suffix; only where that many are not there are they counted.
+// Whether the nodes that the suffixes need are at most `room`. They are no more than the root and b - 1 for each suffix; only where that many are not there are they counted. b comes without a number of slots, so `Shape` does not fit.
 pub(crate) fn fits(strip: &[u64], b: usize, room: usize) -> bool
     requires le_b { 1 ≤ b }
     requires b_bound { b ≤ 5 }

@@ -30,6 +30,9 @@ none-waits : (v : Nodes) (d : ℕ) (nodes leads : List ℕ) → all_listed v d n
 unfolding each
 none-waits v d nodes leads = refl
 
+no-bit : (k : ℕ) → word_bit 0 k ≡ 1 → ⊥
+no-bit k z = let e : word_bit 0 k ≡ 0 = bit-zero k in omega arith
+
 -- what is ahead: the children that wait, what is left of word w, whose first bit stands at place p, and the words from e on
 abbrev pub ahead : ℕ → ℕ → ℕ → List ℕ → List ℕ → List ℕ → List ℕ → List ℕ → List ℕ → ℕ → ℕ → ℕ → ℕ → List ℕ
 ahead N d count l nodes leads maps children leads' c e w p =
@@ -71,15 +74,12 @@ module _ (N b d count from : ℕ) (l nodes leads maps W : List ℕ) (S : Pour) w
     children-long = hc;
     leads-long = hl;
     row = record { few = R.few; tries = R.tries; some = some; short = omega (arith, R.short); node = λ i h. absurd (omega arith); lead = λ i h. absurd (omega arith) };
-    place = λ k h z. absurd (zero_one (sym (bit-zero k) ∙ z));
-    bits = λ k h z. absurd (zero_one (sym (bit-zero k) ∙ z));
+    place = λ k h z. absurd (no-bit k z);
+    bits = λ k h z. absurd (no-bit k z);
     same = ap (λ (xs : List ℕ). poured (not_below from xs) S)
         (ap₂ ◌++◌ (none-waits v d children leads') (ap (λ (xs : List ℕ). xs ++ words 0) (behind-none (λ k. g (0 + k))))
         ∙ start-words (λ j. get_or maps j 0) g (4 * count) ∙ sym (all-behind N d l nodes leads maps count H) ∙ sym e);
   }
-    where
-      zero_one : ◌≡◌ {A = ℕ} 0 1 → ⊥
-      zero_one q = omega arith
 
   module _ {out children leads' : List ℕ} {c skip at e w p : ℕ} (r : Run out children leads' c skip at e w p) where
     -- a word with no bit left adds nothing
@@ -101,6 +101,20 @@ module _ (N b d count from : ℕ) (l nodes leads maps W : List ℕ) (S : Pour) w
           let f : (e * 64 + k) % 64 ≡ k = omega arith in
           bit-held N l nodes maps count H (e * 64 + k) (omega arith) ∙ ap₂ (λ (x y : ℕ). word_bit (get_or maps x 0) y) a f ∙ q;
       same = ap (λ (xs : List ℕ). poured (not_below from (all_listed v d children leads' c ++ xs)) (state skip at out)) (sym (word-done z ∙ next_word (λ j. get_or maps j 0) g e (4 * count) h)) ∙ r.same;
+    }
+
+    -- the same, with no word at hand
+    pub run-between : w ≡ 0 → Run out children leads' c skip at e 0 0
+    run-between z = record {
+      few = r.few;
+      inside = r.inside;
+      long = r.long;
+      children-long = r.children-long;
+      leads-long = r.leads-long;
+      row = r.row;
+      place = λ k h q. absurd (no-bit k q);
+      bits = λ k h q. absurd (no-bit k q);
+      same = ap (λ (xs : List ℕ). poured (not_below from (all_listed v d children leads' c ++ xs)) (state skip at out)) (ap (λ (xs : List ℕ). xs ++ words e) (behind-none (λ k. g (0 + k))) ∙ sym (word-done z)) ∙ r.same;
     }
 
     -- the children that wait are poured
@@ -230,6 +244,9 @@ start N D count from l nodes leads maps S children leads' B n H hc hl =
 module _ {N d count from : ℕ} {l nodes leads maps W : List ℕ} {S : Pour} {out children leads' : List ℕ} {c skip at e w p : ℕ} (r : Runs N d count from l nodes leads maps W S out children leads' c skip at e w p) where
   pub waiting : Batch N d c children leads' l
   waiting = record { levels = r.levels; row = r.run.row }
+
+  pub between : w ≡ 0 → Runs N d count from l nodes leads maps W S out children leads' c skip at e 0 0
+  between z = record { levels = r.levels; whole = r.whole; held = r.held; run = run-between N r.levels d count from l nodes leads maps W S r.run z }
 
   pub load : w ≡ 0 → e < 4 * count → Runs N d count from l nodes leads maps W S out children leads' c skip at (e + 1) (get_or maps e 0) (e * 64)
   load z h = record { levels = r.levels; whole = r.whole; held = r.held; run = run-load N r.levels d count from l nodes leads maps W S r.run z h r.held }

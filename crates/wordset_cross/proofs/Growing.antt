@@ -1,4 +1,5 @@
 -- A full vector of a region and a suffix more become a trie: what planting asks, and what the region reads as. Assumes nothing.
+use Rattle.std.specs.Prelude.{Result, Ok, Err}
 use Prim.Native.Nat.{ℕ, ◌+◌, ◌-◌, ◌*◌, ◌^◌, ◌<◌, ◌≤◌}
 use mathlib.Core.Path.{◌≡◌, refl, sym, ap, ◌∙◌, subst}
 use mathlib.Core.Bool.{true, false, ◌&&◌, false≢true}
@@ -29,8 +30,7 @@ use Rattle.region.proofs.SeenBits.{seen-bits}
 use Rattle.region.proofs.Containers.{containers-good}
 use Rattle.lists.specs.Lists.{up_to}
 use Rattle.arena.specs.Arena.{Arena, Planted}
-use Rattle.trie_pour.specs.declared.Planting.{Planting}
-use Rattle.trie_pour.specs.declared.Planting.TheVariants.{At, NoRoom}
+use Rattle.arena.specs.declared.NoRoom.{NoRoom}
 use Rattle.trie_pour.specs.Answers.{PlantedAs}
 use Rattle.lens.specs.Parts.{Parts, parts_of, seen_in, with_arena}
 use Rattle.lens.specs.Holding.{Holding}
@@ -41,7 +41,7 @@ use Rattle.steps.proofs.Refilling.{refill-shape, refill-reads}
 use Rattle.wordset_lookup.proofs.Looks.{vector-part}
 use Rattle.wordset_trie.specs.Answers.{ReadsWith}
 use Rattle.wordset_trie.proofs.Arenas.{arena-of}
-use Rattle.wordset_trie.proofs.Lent.{lent_of, with_lent}
+use Rattle.wordset_trie.proofs.Lent.{as-shown, lent_of, with_lent}
 use Rattle.wordset_cross.specs.Settled.{Settled}
 use Rattle.wordset_cross.proofs.Planting.{planted_parts, refilled}
 
@@ -124,23 +124,27 @@ module _ (l : List ℕ) (wf : WellFormed l) where
           ∙ ap (λ (y : List ℕ). take 1024 y ++ (s ∷ [])) (vector-part l wf c h k (get_or l 12 0 + strip_words * c) 1024 refl (sym full))
           ∙ ap (λ (y : List ℕ). y ++ (s ∷ [])) (take_all 1024 ms (omega (arith, ms-length)))
 
-      -- what planting asks
-      pub asked : Arena g.N b g.used (lent_of l) × ((1 ≤ b) × ((b ≤ 5) × ((1 ≤ length out) × ((length out ≤ 1025) × (((i : ℕ) → i < length out → get_or out i 0 < 2 ^ (8 * b)) × Distinct out)))))
-      asked =
-          let p : 2 ^ g.S ≤ 2 ^ (8 * b) = pow_mono (omega arith) in
-          let each : (i : ℕ) → i < length out → get_or out i 0 < 2 ^ (8 * b) = λ i j.
-          let m : mem (get_or out i 0) all ≡ true = subst (λ (y : List ℕ). mem (get_or out i 0) y ≡ true) out-is (stands out i j) in
-          let q : get_or out i 0 < 2 ^ g.S = sorted-good.below (get_or out i 0) (mem-sorted (get_or out i 0) all ∙ m) in
-          omega (arith, p, q) in
-          (lent-ready, (omega (arith, suffix-bits.0), (omega (arith, suffix-bits.1), (omega arith, (omega arith, (each, subst Distinct (sym out-is) all-distinct))))))
+      -- what planting asks, in an arena of a shape with as many slots and levels
+      module _ (N d : ℕ) (en : N ≡ g.N) (ed : d ≡ b) where
+        pub asked : Arena N d g.used (lent_of l) × ((1 ≤ length out) × ((length out ≤ 1025) × (((i : ℕ) → i < length out → get_or out i 0 < 2 ^ (8 * d)) × Distinct out)))
+        asked =
+            let p : 2 ^ g.S ≤ 2 ^ (8 * d) = pow_mono (omega arith) in
+            let each : (i : ℕ) → i < length out → get_or out i 0 < 2 ^ (8 * d) = λ i j.
+            let m : mem (get_or out i 0) all ≡ true = subst (λ (y : List ℕ). mem (get_or out i 0) y ≡ true) out-is (stands out i j) in
+            let q : get_or out i 0 < 2 ^ g.S = sorted-good.below (get_or out i 0) (mem-sorted (get_or out i 0) all ∙ m) in
+            omega (arith, p, q) in
+            (as-shown (λ x y. Arena x y g.used (lent_of l)) (sym en) (sym ed) lent-ready, (omega arith, (omega arith, (each, subst Distinct (sym out-is) all-distinct))))
 
-      module _ (o : Planting) (new : List ℕ) (i : PlantedAs g.N b g.used c out (lent_of l) o new) where
-        as-all : PlantedAs g.N b g.used c all (lent_of l) o new
-        as-all = subst (λ (y : List ℕ). PlantedAs g.N b g.used c y (lent_of l) o new) out-is i
+      module _ (N d : ℕ) (en : N ≡ g.N) (ed : d ≡ b) (o : Result (ℕ × ℕ) NoRoom) (new : List ℕ) (i : PlantedAs N d g.used c out (lent_of l) o new) where
+        abbrev As : Result (ℕ × ℕ) NoRoom → Type 0
+        As a = PlantedAs g.N b g.used c all (lent_of l) a new
 
-        module _ {root used' : ℕ} (e : o ≡ At root used') where
+        as-all : As o
+        as-all = as-shown (λ x y. PlantedAs x y g.used c all (lent_of l) o new) en ed (subst (λ (y : List ℕ). PlantedAs N d g.used c y (lent_of l) o new) out-is i)
+
+        module _ {root used' : ℕ} (e : o ≡ Ok (root, used')) where
           planted : Planted g.N b g.used (lent_of l) c root (sorted all) used' new
-          planted = subst (λ (a : Planting). PlantedAs g.N b g.used c all (lent_of l) a new) e as-all
+          planted = subst As e as-all
 
           pub grow-ready : Ready (with_lent l new) × (c < (numbers (with_lent l new)).C)
           grow-ready =
@@ -162,7 +166,7 @@ module _ (l : List ℕ) (wf : WellFormed l) where
                 past-stays = settled.same_rest;
               }
 
-        pub grow-full : o ≡ NoRoom → (g.N < g.used + trie_nodes b all) × (with_lent l new ≡ l)
+        pub grow-full : {q : NoRoom} → o ≡ Err q → (g.N < g.used + trie_nodes b all) × (with_lent l new ≡ l)
         grow-full e =
-            let a = subst (λ (a : Planting). PlantedAs g.N b g.used c all (lent_of l) a new) e as-all in
+            let a = subst As e as-all in
             (a.0, ap (with_lent l) a.1 ∙ put_same (get_or l 13 0) (get_or l 15 0 - get_or l 13 0) l)

@@ -1,5 +1,6 @@
 -- A trie of a region with one suffix more than a vector may have becomes a vector with one less: what draining asks, and what the region reads as. Assumes nothing.
-use Prim.Native.Nat.{ℕ, suc, ◌+◌, ◌-◌, ◌*◌, ◌^◌, ◌<◌, ◌≤◌}
+use Rattle.std.specs.Prelude.{Option, Some, None}
+use Prim.Native.Nat.{ℕ, suc, ◌+◌, ◌-◌, ◌*◌, ◌<◌, ◌≤◌}
 use mathlib.Core.Path.{◌≡◌, sym, ap, ◌∙◌, subst}
 use mathlib.Core.Bool.{true, false}
 use mathlib.Core.List.{List, ◌++◌, append-nil}
@@ -20,7 +21,7 @@ use Rattle.region.specs.Seen.{Seen, seen}
 use Rattle.region.specs.Read.{suffixes, read, reading}
 use Rattle.region.specs.WellFormed.{Ready, WellFormed}
 use Rattle.region.proofs.SeenBits.{seen-bits}
-use Rattle.arena.specs.Arena.{nodes_in, Root, Arena, OthersStay, Vanished}
+use Rattle.arena.specs.Arena.{nodes_in, OthersStay, Vanished}
 use Rattle.lens.specs.Parts.{Parts, parts_of, seen_in, with_arena, with_entries}
 use Rattle.lens.specs.Holding.{Holding}
 use Rattle.lens.proofs.Holding.{begin, sized, well-formed, reads_as, lent-arena, lent-strip, give-arena, give-strip}
@@ -30,8 +31,6 @@ use Rattle.steps.proofs.Refilling.{refill-shape, refill-reads}
 use Rattle.wordset_trie.specs.Answers.{ReadsWith}
 use Rattle.wordset_trie.proofs.Lent as lent
 use Rattle.wordset_trie.proofs.Lent.{lent_of, with_lent, good-without}
-use Rattle.wordset_cross.specs.declared.Drained.{Drained}
-use Rattle.wordset_cross.specs.declared.Drained.TheVariants.{Gone, Absent}
 use Rattle.wordset_cross.specs.Drained.{DrainedAs}
 use Rattle.wordset_cross.specs.Settled.{Settled}
 use Rattle.wordset_cross.proofs.Pouring.{poured_parts, refilled}
@@ -62,24 +61,25 @@ module _ (l : List ℕ) (wf : WellFormed l) (c : ℕ) (h : c < (numbers l).C) (k
     held : members (nodes_in g.N (lent_of l)) b root ≡ ms
     held = ap (members (nodes_in g.N (lent_of l)) b) er ∙ lent.held-is l wf c h k
 
-    -- what draining asks
-    pub drain-asked : (s : ℕ) → s < 2 ^ g.S → (out : List ℕ) → length out ≡ 1024
-        → Arena g.N b g.used (lent_of l) × (Root (nodes_in g.N (lent_of l)) g.N root × ((1 ≤ b) × ((b ≤ 5) × ((s < 2 ^ (8 * b)) × ((1 ≤ length out) × (length (members (nodes_in g.N (lent_of l)) b root) ≡ length out + 1))))))
-    drain-asked s small out long =
-        let a = lent.asked l wf c h k root s er small in
+    -- what draining asks of the members, in an arena of a shape with as many slots and levels
+    pub drain-asked : (N d : ℕ) → N ≡ g.N → d ≡ b → (out : List ℕ) → length out ≡ 1024 → (1 ≤ length out) × (length (members (nodes_in N (lent_of l)) d root) ≡ length out + 1)
+    drain-asked N d en ed out long =
         let n : length (members (nodes_in g.N (lent_of l)) b root) ≡ v.size c = ap length held ∙ lent.ms-length l wf c h k in
-        (a.0, (a.1.0, (a.1.1.0, (a.1.1.1.0, (a.1.1.1.1, (omega arith, omega arith))))))
+        (omega arith, lent.as-shown (λ x y. length (members (nodes_in x (lent_of l)) y root) ≡ length out + 1) (sym en) (sym ed) (omega arith))
 
-    module _ (s : ℕ) (o : Drained) (new out : List ℕ) (i : DrainedAs g.N b g.used root s (lent_of l) o new out) where
-      abbrev As : Drained → Type 0
+    module _ (N d : ℕ) (en : N ≡ g.N) (ed : d ≡ b) (s : ℕ) (o : Option ℕ) (new out : List ℕ) (j : DrainedAs N d g.used root s (lent_of l) o new out) where
+      abbrev As : Option ℕ → Type 0
       As a = DrainedAs g.N b g.used root s (lent_of l) a new out
 
-      pub shrink-absent : o ≡ Absent → (mem s ms ≡ false) × (with_lent l new ≡ l)
+      i : As o
+      i = lent.as-shown (λ x y. DrainedAs x y g.used root s (lent_of l) o new out) en ed j
+
+      pub shrink-absent : o ≡ None → (mem s ms ≡ false) × (with_lent l new ≡ l)
       shrink-absent e =
           let a = subst As e i in
           (ap (mem s) (sym held) ∙ a.0, lent.unchanged l wf c h k new a.1)
 
-      module _ {used' : ℕ} (e : o ≡ Gone used') where
+      module _ {used' : ℕ} (e : o ≡ Some used') where
         was-there : mem s ms ≡ true
         was-there = ap (mem s) (sym held) ∙ (subst As e i).0
 

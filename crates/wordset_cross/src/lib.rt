@@ -15,17 +15,11 @@ ghost use Rattle.wordset_cross.specs.Settled.{Settled};
 ghost use Rattle.wordset_cross.specs.Drained.{DrainedAs};
 ghost use Rattle.wordset_cross.specs.Answers.{GrownAs};
 
+use arena::{NoRoom, Shape};
 use lens::read;
 use strip::store;
 use trie::{Removed, remove};
-use trie_pour::{Planting, plant, pour};
-
-// A trie without a suffix is poured out, with the nodes in use afterwards; or the suffix was none of it.
-#[derive(Clone, Copy)]
-enum Drained {
-    Gone(usize),
-    Absent,
-}
+use trie_pour::{plant, pour};
 
 // Stores kind, length and link of slot c, the nodes in use and the member count.
 fn settle(region: &mut [u64], c: usize, kind: u64, len: u64, link: usize, used: usize, count: u64)
@@ -41,8 +35,8 @@ fn settle(region: &mut [u64], c: usize, kind: u64, len: u64, link: usize, used: 
     region[7] = count;
 }
 
-// Makes a trie of the full vector in slot c and of s, which it does not hold: whether there is room. Refused exactly when the nodes that they need pass what is there.
-pub fn grow(region: &mut [u64], c: usize, s: u64) -> bool
+// Makes a trie of the full vector in slot c and of s, which it does not hold. Refused exactly when the nodes that they need pass what is there.
+pub fn grow(region: &mut [u64], c: usize, s: u64) -> Result<(), NoRoom>
     requires well_formed { WellFormed region.old }
     requires c_bound { c < (numbers region.old).C }
     requires c_value { (seen (numbers region.old) region.old).kind c ≡ 1 }
@@ -51,47 +45,38 @@ pub fn grow(region: &mut [u64], c: usize, s: u64) -> bool
     requires c_value_3 { mem s (suffixes (numbers region.old) (seen (numbers region.old) region.old) c) ≡ false }
     ensures { GrownAs c s region.old result region.new }
 {
-    let slots = region[4] as usize;
+    let shape = read::shape(region);
     let used = region[6] as usize;
-    let b = (region[2] as usize + 7) / 8;
     let more = region[7] + 1;
     let at = region[12] as usize + 1024 * c;
     let mut all: [u64; 1025] = [0; 1025];
     store::copy_out(&region[at..at + 1024], 1024, s, &mut all);
     let start = region[13] as usize;
     let end = region[15] as usize;
-    match plant(&mut region[start..end], slots, used, b, c, &all) {
-        Planting::At(root, left) => {
-            settle(region, c, 2, 1025, root, left, more);
-            true
-        }
-        Planting::NoRoom => false,
-    }
+    let (root, left) = plant(&mut region[start..end], shape, used, c, &all)?;
+    settle(region, c, 2, 1025, root, left, more);
+    Ok(())
 }
 
-// Takes s out of a trie that has one suffix more than there is room in `out`, writes the others, ascending, and frees all its nodes.
+// Takes s out of a trie that has one suffix more than there is room in `out`, writes the others, ascending, and frees all its nodes: the nodes in use afterwards, or None where s is none of it.
 fn drain(
     arena: &mut [u64],
-    slots: usize,
+    shape: Shape,
     used: usize,
-    b: usize,
     root: usize,
     s: u64,
     out: &mut [u64],
-) -> Drained
-    requires arena { Arena slots b used arena.old }
-    requires root { Root (nodes_in slots arena.old) slots root }
-    requires le_b { 1 ≤ b }
-    requires b_bound { b ≤ 5 }
-    requires s_bound { s < 2 ^ (8 * b) }
+) -> Option<usize>
+    requires arena { Arena shape.slots shape.b used arena.old }
+    requires root { Root (nodes_in shape.slots arena.old) shape.slots root }
+    requires s_bound { s < 2 ^ (8 * shape.b) }
     requires in_bounds { 1 ≤ length out.old }
-    requires root_len { length (members (nodes_in slots arena.old) b root) ≡ length out.old + 1 }
-    ensures { DrainedAs slots b used root s arena.old result arena.new out.new }
+    requires root_len { length (members (nodes_in shape.slots arena.old) shape.b root) ≡ length out.old + 1 }
+    ensures { DrainedAs shape.slots shape.b used root s arena.old result arena.new out.new }
 {
-    match remove(arena, slots, used, b, root, s) {
-        Removed::Gone(left) => Drained::Gone(pour(arena, slots, left, b, root, out)),
-        Removed::Last(_) => Drained::Absent, // not with so many members
-        Removed::Absent => Drained::Absent,
+    match remove(arena, shape, used, root, s) {
+        Removed::Gone(left) => Some(pour(arena, shape, left, root, out)),
+        Removed::Last(_) | Removed::Absent => None, // the last one is not with so many members
     }
 }
 
@@ -105,20 +90,17 @@ pub fn shrink(region: &mut [u64], c: usize, s: u64) -> bool
     ensures { TakenAs c s region.old result region.new }
 {
     let root = read::link(region, c);
-    let slots = region[4] as usize;
+    let shape = read::shape(region);
     let used = region[6] as usize;
-    let b = (region[2] as usize + 7) / 8;
     let fewer = region[7] - 1;
     let at = region[12] as usize + 1024 * c;
     let start = region[13] as usize;
     let end = region[15] as usize;
     let mut rest: [u64; 1024] = [0; 1024];
-    match drain(&mut region[start..end], slots, used, b, root, s, &mut rest) {
-        Drained::Gone(left) => {
-            store::copy_in(&mut region[at..at + 1024], &rest);
-            settle(region, c, 1, 1024, root, left, fewer); // a vector's link is not looked at
-            true
-        }
-        Drained::Absent => false,
-    }
+    let Some(left) = drain(&mut region[start..end], shape, used, root, s, &mut rest) else {
+        return false;
+    };
+    store::copy_in(&mut region[at..at + 1024], &rest);
+    settle(region, c, 1, 1024, root, left, fewer); // a vector's link is not looked at
+    true
 }

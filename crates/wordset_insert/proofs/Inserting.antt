@@ -1,4 +1,5 @@
 -- What each answer of an insert comes to: the step that was taken is the model's insert, and the room is the model's. Assumes nothing.
+use Rattle.std.specs.Prelude.{Result, Ok, Err}
 use Prim.Native.Nat.{ℕ, suc, ◌+◌, ◌-◌, ◌^◌, ◌<◌, ◌≤◌}
 use mathlib.Core.Path.{◌≡◌, refl, sym, ap, ◌∙◌, subst}
 use mathlib.Core.Logic.{◌≢◌}
@@ -33,8 +34,7 @@ use Rattle.promises.specs.Reads.{ReadsAs}
 use Rattle.steps.proofs.Bridge.{has-clear, insert-clear, room-clear, has-set, insert-member, insert-other, old-good, length-added, room-member, room-other}
 use Rattle.wordset_lookup.proofs.Looks.{prefix-fits, slot-fits, slot-kind}
 use Rattle.wordset_trie.specs.Answers.{ReadsWith, PutAs}
-use Rattle.wordset_trie.specs.declared.Outcome.{Outcome}
-use Rattle.wordset_trie.specs.declared.Outcome.TheVariants.{New, Old, NoRoom}
+use Rattle.arena.specs.declared.NoRoom.{NoRoom}
 use Rattle.wordset_cross.specs.Answers.{GrownAs}
 use Rattle.wordset_insert.specs.Answers.{InsertedAs}
 
@@ -134,7 +134,7 @@ module _ {l : List ℕ} {w p s : ℕ} (a : Parted l w p s) where
   used-is = reads-nodes g v a.wf.shape (seen-bits g l)
 
   -- a step that reads as the model's insert found the word new
-  done : {l' : List ℕ} → has (reading l) w ≡ false → ReadsAs l (insert w (reading l)) l' → InsertedAs w l New l'
+  done : {l' : List ℕ} → has (reading l) w ≡ false → ReadsAs l (insert w (reading l)) l' → InsertedAs w l (Ok true) l'
   done {l'} e x = record {
     room = room_after (reading l) (good l a.wf) w (unfold reading read in a.small) (subst Good x.reads (good l' x.well-formed));
     was = sym e;
@@ -148,7 +148,7 @@ module _ {l : List ℕ} {w p s : ℕ} (a : Parted l w p s) where
     model-clear = ap v.bit (sym a.prefix-is) ∙ is-clear
 
     -- no slot is free: refused
-    pub clear-full : {l' : List ℕ} → g.C ≤ g.k → l' ≡ l → InsertedAs w l NoRoom l'
+    pub clear-full : {l' : List ℕ} {q : NoRoom} → g.C ≤ g.k → l' ≡ l → InsertedAs w l (Err q) l'
     unfolding reading read
     clear-full h e = record {
       no_room = room-clear g v a.wf.shape.placed (seen-bits g l) read-good w model-small model-clear used-is ∙ le-ltb g.k g.C h;
@@ -156,7 +156,7 @@ module _ {l : List ℕ} {w p s : ℕ} (a : Parted l w p s) where
     }
 
     -- a container was opened
-    pub clear-opened : {l' : List ℕ} → ReadsAs l (with (reading l) (placed p (top (reading l).free) (s ∷ []) (reading l).containers) (rest (reading l).free)) l' → InsertedAs w l New l'
+    pub clear-opened : {l' : List ℕ} → ReadsAs l (with (reading l) (placed p (top (reading l).free) (s ∷ []) (reading l).containers) (rest (reading l).free)) l' → InsertedAs w l (Ok true) l'
     unfolding reading
     clear-opened {l'} x =
         let q : Reading = read g v in
@@ -204,7 +204,7 @@ module _ {l : List ℕ} {w p s : ℕ} (a : Parted l w p s) where
     c-used z = (a.wf.shape.placed.borne p p-small set).in_use (ap v.kind (sym ec) ∙ z)
 
     -- an insert at the slot is one of the word
-    pub at_done : (o : Outcome) (l' : List ℕ) → InsertedAs (joined g.S (v.prefix c) s) l o l' → InsertedAs w l o l'
+    pub at_done : (o : Result Bool NoRoom) (l' : List ℕ) → InsertedAs (joined g.S (v.prefix c) s) l o l' → InsertedAs w l o l'
     at_done o l' x = subst (λ (z : ℕ). InsertedAs z l o l') (ap (λ (z : ℕ). joined g.S z s) prefix_here ∙ ap (joined g.S (prefix_of g.S w)) a.suffix-is ∙ joined-parts g.S w) x
 
     -- what a search found, told by its test
@@ -212,7 +212,7 @@ module _ {l : List ℕ} {w p s : ℕ} (a : Parted l w p s) where
     found-is found told e i = sym e ∙ i
 
     -- a member is found, and nothing changes
-    pub set-old : {l' : List ℕ} → mem s held ≡ true → l' ≡ l → InsertedAs w l Old l'
+    pub set-old : {l' : List ℕ} → mem s held ≡ true → l' ≡ l → InsertedAs w l (Ok false) l'
     unfolding reading read
     set-old {l'} m e =
         let m' = mem_is ∙ m in
@@ -231,7 +231,7 @@ module _ {l : List ℕ} {w p s : ℕ} (a : Parted l w p s) where
       longer = ap length (sym added_is) ∙ length-added g v a.wf.shape.placed (seen-bits g l) read-good w model-small model-set m' ∙ ap (λ (z : ℕ). suc (length (suffixes g v z))) slot_is
 
       -- the slot got the suffix
-      set_new : {l' : List ℕ} {ss : List ℕ} → ss ≡ added s held → ReadsWith c ss l l' → InsertedAs w l New l'
+      set_new : {l' : List ℕ} {ss : List ℕ} → ss ≡ added s held → ReadsWith c ss l l' → InsertedAs w l (Ok true) l'
       unfolding reading
       set_new {l'} {ss} e x =
           let q : Reading = read g v in
@@ -242,7 +242,7 @@ module _ {l : List ℕ} {w p s : ℕ} (a : Parted l w p s) where
           done (has-set g v a.wf.shape.placed (seen-bits g l) read-good w model-small model-set ∙ m') (subst (λ (y : Reading). ReadsAs l y l') same x)
 
       -- the nodes would pass what is there: refused
-      set_full : {l' : List ℕ} (before after : ℕ) → container_nodes (bytes_of g.S) held ≡ before → container_nodes (bytes_of g.S) (added s held) ≡ after → g.N + before < g.used + after → l' ≡ l → InsertedAs w l NoRoom l'
+      set_full : {l' : List ℕ} {q : NoRoom} (before after : ℕ) → container_nodes (bytes_of g.S) held ≡ before → container_nodes (bytes_of g.S) (added s held) ≡ after → g.N + before < g.used + after → l' ≡ l → InsertedAs w l (Err q) l'
       unfolding reading read
       set_full before after eb ea h e =
           let b : ℕ = bytes_of g.S in
@@ -279,10 +279,10 @@ module _ {l : List ℕ} {w p s : ℕ} (a : Parted l w p s) where
       added-put = let t : is_trie held ≡ true = lt-ltb threshold (length held) many in put-above s held t (held-good.ordered t)
 
       -- whatever the put answered
-      pub put-done : (o : Outcome) (l' : List ℕ) → PutAs c s l o l' → InsertedAs w l o l'
-      put-done New l' x = set_new x.0 (sym added-put) x.1
-      put-done Old l' x = set-old x.0 x.1
-      put-done NoRoom l' x =
+      pub put-done : (o : Result Bool NoRoom) (l' : List ℕ) → PutAs c s l o l' → InsertedAs w l o l'
+      put-done (Ok true) l' x = set_new x.0 (sym added-put) x.1
+      put-done (Ok false) l' x = set-old x.0 x.1
+      put-done (Err q) l' x =
           set_full x.0.0 (trie_nodes (bytes_of g.S) held) (trie_nodes (bytes_of g.S) (put s held))
           (nodes-many (bytes_of g.S) held many)
           (nodes-many (bytes_of g.S) (added s held) (omega (arith, many, longer x.0.0)) ∙ ap (trie_nodes (bytes_of g.S)) added-put)
@@ -303,7 +303,7 @@ module _ {l : List ℕ} {w p s : ℕ} (a : Parted l w p s) where
       full_is n e h = omega (arith, (a.wf.shape.held.vector c c-small k).few)
 
       -- a vector with room got the suffix
-      pub push-done : {l' : List ℕ} → mem s held ≡ false → v.size c < threshold → ReadsWith c (held ++ (s ∷ [])) l l' → InsertedAs w l New l'
+      pub push-done : {l' : List ℕ} → mem s held ≡ false → v.size c < threshold → ReadsWith c (held ++ (s ∷ [])) l l' → InsertedAs w l (Ok true) l'
       push-done m h x = set_new m (sym (appended s held (omega (arith, held-length)))) x
 
       module _ (m : mem s held ≡ false) (full : v.size c ≡ threshold) where
@@ -311,14 +311,14 @@ module _ {l : List ℕ} {w p s : ℕ} (a : Parted l w p s) where
         sorted-is = added-sorted s held (omega (arith, held-length))
 
         -- a full vector became a trie
-        pub grow-done : (grown : Bool) (l' : List ℕ) → GrownAs c s l grown l' → grown ≡ true → InsertedAs w l New l'
-        grow-done grown l' i e = set_new m (sym sorted-is) (subst (λ (t : Bool). GrownAs c s l t l') e i)
+        pub grow-done : (grown : Result (Unit {0}) NoRoom) (l' : List ℕ) → GrownAs c s l grown l' → {u : Unit {0}} → grown ≡ Ok u → InsertedAs w l (Ok true) l'
+        grow-done grown l' i e = set_new m (sym sorted-is) (subst (λ (t : Result (Unit {0}) NoRoom). GrownAs c s l t l') e i)
 
         -- or found no nodes
-        pub grow-full : (grown : Bool) (l' : List ℕ) → GrownAs c s l grown l' → grown ≡ false → InsertedAs w l NoRoom l'
+        pub grow-full : (grown : Result (Unit {0}) NoRoom) (l' : List ℕ) → GrownAs c s l grown l' → {e q : NoRoom} → grown ≡ Err e → InsertedAs w l (Err q) l'
         grow-full grown l' i e =
             let b : ℕ = bytes_of g.S in
-            let x = subst (λ (t : Bool). GrownAs c s l t l') e i in
+            let x = subst (λ (t : Result (Unit {0}) NoRoom). GrownAs c s l t l') e i in
             set_full m 0 (trie_nodes b (held ++ (s ∷ [])))
             (nodes-few b held (omega (arith, held-length)))
             (nodes-many b (added s held) (omega (arith, held-length, longer m)) ∙ ap (trie_nodes b) sorted-is ∙ nodes-sorted b (held ++ (s ∷ [])))

@@ -8,17 +8,18 @@ ghost use Rattle.region.specs.Seen.{seen};
 ghost use Rattle.region.specs.WellFormed.{WellFormed};
 ghost use Rattle.wordset_insert.specs.Answers.{InsertedAs};
 
-use lens::find::{Place, find};
+use arena::NoRoom;
+use lens::find::find;
 use lens::read;
 use strip::trievec::TrieVec;
 use wordset_cross::grow;
 use wordset_lookup::{in_vector, prefix_of, suffix_of};
 use wordset_slots::open;
-use wordset_trie::{Outcome, put};
+use wordset_trie::put;
 use wordset_vector::push;
 
-// Inserts the word of slot c's prefix and the suffix s: for words under one prefix its slot is found once.
-pub fn insert_at(region: &mut [u64], c: usize, s: u64) -> Outcome
+// Inserts the word of slot c's prefix and the suffix s, as `insert` does: for words under one prefix its slot is found once.
+pub fn insert_at(region: &mut [u64], c: usize, s: u64) -> Result<bool, NoRoom>
     requires well_formed { WellFormed region.old }
     requires c_bound { c < (numbers region.old).C }
     requires c_nonzero { (seen (numbers region.old) region.old).kind c ≢ 0 }
@@ -29,20 +30,18 @@ pub fn insert_at(region: &mut [u64], c: usize, s: u64) -> Outcome
         return put(region, c, s);
     }
     if in_vector(region, c, s) {
-        return Outcome::Old;
+        return Ok(false);
     }
     if read::size(region, c) < TrieVec::THRESHOLD {
         push(region, c, s);
-        return Outcome::New;
+        return Ok(true);
     }
-    if grow(region, c, s) {
-        return Outcome::New;
-    }
-    Outcome::NoRoom
+    grow(region, c, s)?;
+    Ok(true)
 }
 
-// Inserts the word w; the hint, any number, is where its container may stand. Refused exactly when the set with it would not fit; then nothing is changed.
-pub fn insert(region: &mut [u64], w: u64, hint: usize) -> Outcome
+// Inserts the word w: whether it is new. The hint, any number, is where its container may stand. Refused exactly when the set with it would not fit; then nothing is changed.
+pub fn insert(region: &mut [u64], w: u64, hint: usize) -> Result<bool, NoRoom>
     requires well_formed { WellFormed region.old }
     requires w_bound { w < 2 ^ ((numbers region.old).P + (numbers region.old).S) }
     ensures { InsertedAs w region.old result region.new }
@@ -51,13 +50,13 @@ pub fn insert(region: &mut [u64], w: u64, hint: usize) -> Outcome
     let p = prefix_of(w, bits);
     let s = suffix_of(w, bits);
     match find(region, p, hint) {
-        Place::At(c) => insert_at(region, c, s),
-        Place::Nowhere => {
+        Some(c) => insert_at(region, c, s),
+        None => {
             if read::k(region) >= read::c(region) {
-                return Outcome::NoRoom;
+                return Err(NoRoom);
             }
             open(region, p, s, hint);
-            Outcome::New
+            Ok(true)
         }
     }
 }

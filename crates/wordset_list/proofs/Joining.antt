@@ -7,7 +7,6 @@ use native.Mathlib.Omega.{arith}
 use lib.Dec.{ltb}
 use lib.ListN.{length, take, drop, length-append, length-drop, take-append-drop}
 use lib.Seq.{drop-drop, drop-length, drop-append-le, length-take-le, take_at, drop_at}
-use borrow.Author.Tests.{lt-ltb, le-ltb}
 use borrow.Rule.Slice.PartMut.{put_mid, same_len_mid}
 use Rattle.lists.specs.Lists.{first_bad}
 use Rattle.model.specs.Reading.{Reading}
@@ -20,16 +19,9 @@ use Rattle.promises.specs.Refusals.Told.{gave, refused}
 use Rattle.promises.specs.Reads.{past}
 use Rattle.promises.specs.List.{word_of, outcome, no_room, Ran}
 use Rattle.promises.proofs.Tell.{gave-none, refused-same, when-nil}
-use Rattle.wordset_list.specs.Performing.{continued, Going, RanAs, up_to}
+use Rattle.wordset_list.specs.Performing.{continued, Going, RanAs}
 use Rattle.wordset_list.proofs.Carrying.{past-kept}
 use Rattle.wordset_list.proofs.Runs.{kept_run, run-joins, run-halts, continued-twice, commands-length, commands-split}
-
--- what a block tells: command k found no room, or all are answered
-pub up-to-stop : (k n : ℕ) → k < n → up_to k n ≡ refused (refusal 9 k)
-up-to-stop k n h = ap (λ (b : Bool). tell (when b 9 k) tt) (lt-ltb k n h)
-
-pub up-to-end : (k n : ℕ) → n ≤ k → up_to k n ≡ gave tt
-up-to-end k n h = ap (λ (b : Bool). tell (when b 9 k) tt) (le-ltb k n h)
 
 module _ (l codes words answers : List ℕ) {i : ℕ} {l' answers' : List ℕ} (g : Going l codes words answers i l' answers') where
   -- words of the region are words of it as it is now

@@ -1,20 +1,20 @@
 -- The first entry that fails a test, found from the front; a word of p + s bits by two shifts or by a bound; bits joined. Assumes nothing.
 use mathlib.Core.Path.{◌≡◌, refl, sym, ap, ◌∙◌, subst}
-use mathlib.Core.Bool.{Bool, true, false, ◌&&◌}
-use mathlib.Core.List.{List, [], ◌∷◌}
+use mathlib.Core.Bool.{Bool, true, false, not, ◌&&◌}
+use mathlib.Core.List.{List, [], ◌∷◌, ◌++◌}
 use Prim.Native.Nat.{ℕ, zero, suc, ◌+◌, ◌*◌, ◌/◌, ◌%◌, ◌^◌, ◌≤◌, ◌<◌}
 use native.Mathlib.Omega.{arith}
 use native.Mathlib.Nat.{mod-lt, one-mul}
 use native.Mathlib.Decide.{dec_lt}
 use lib.Bits.{bit_or, or_add_and}
 use lib.Dec.{eqb, ltb}
-use lib.ListN.{length, drop, get_or}
-use lib.Seq.{drop-cons, drop-length}
+use lib.ListN.{length, get_or}
 use lib.Pow.{pow_pos, shr-shr, shr_lt, split}
-use borrow.Author.Tests.{lt-ltb, le-ltb, eqb-true, eq-eqb}
+use borrow.Author.Tests.{lt-ltb, le-ltb, lt-leb, le-leb, ltb-true, ltb-false, eqb-true, eqb-false, eq-eqb}
 use Rattle.lists.specs.Lists.{first_bad, all}
 use Rattle.lists.proofs.Laws.{by-test, and_both, both-and, iff-eq}
 use Rattle.model.specs.Words.{is_word}
+use Rattle.model.specs.Commands.{known_code}
 use Rattle.bitvector.proofs.WordLaws.{shl_one}
 use Rattle.strip.proofs.BoundLaws.{places-all, or_above}
 
@@ -27,24 +27,6 @@ module _ (t : ℕ → Bool) where
   at-bad : (x : ℕ) (xs : List ℕ) → t x ≡ false → first_bad t (x ∷ xs) ≡ 0
   at-bad x xs e = rw e
 
-  -- entry i passes: the search goes on behind it
-  pub first_more : (xs : List ℕ) (i : ℕ) → i < length xs → t (get_or xs i 0) ≡ true → first_bad t xs ≡ i + first_bad t (drop i xs) → first_bad t xs ≡ suc i + first_bad t (drop (suc i) xs)
-  first_more xs i h g e =
-      let d : first_bad t (drop i xs) ≡ suc (first_bad t (drop (suc i) xs)) = ap (first_bad t) (drop-cons xs i 0 h) ∙ at-start (get_or xs i 0) (drop (suc i) xs) g in
-      omega arith
-
-  -- entry i fails: it is the first
-  pub first-here : (xs : List ℕ) (i : ℕ) → i < length xs → t (get_or xs i 0) ≡ false → first_bad t xs ≡ i + first_bad t (drop i xs) → i ≡ first_bad t xs
-  first-here xs i h g e =
-      let d : first_bad t (drop i xs) ≡ 0 = ap (first_bad t) (drop-cons xs i 0 h) ∙ at-bad (get_or xs i 0) (drop (suc i) xs) g in
-      omega arith
-
-  -- none fails: the length
-  pub first-none : (xs : List ℕ) (i : ℕ) → i ≡ length xs → first_bad t xs ≡ i + first_bad t (drop i xs) → i ≡ first_bad t xs
-  first-none xs i n e =
-      let d : first_bad t (drop i xs) ≡ 0 = ap (λ (k : ℕ). first_bad t (drop k xs)) n ∙ ap (first_bad t) (drop-length xs) in
-      omega arith
-
   -- where the first is past the end, each entry passes
   pub passes : (xs : List ℕ) (i : ℕ) → length xs ≤ first_bad t xs → i < length xs → t (get_or xs i 0) ≡ true
   passes [] i l h = absurd (omega arith)
@@ -56,25 +38,25 @@ module _ (t : ℕ → Bool) where
   past_end [] h = omega arith
   past_end (x ∷ xs) h = omega (arith, at-start x xs (h 0 (omega arith)), past_end xs (λ i k. h (suc i) (omega arith)))
 
+  -- where each of two lists in a row passes, each of either does
+  pub both-pass : (xs ys : List ℕ) → length (xs ++ ys) ≤ first_bad t (xs ++ ys) → (length xs ≤ first_bad t xs) × (length ys ≤ first_bad t ys)
+  both-pass [] ys h = (omega arith, h)
+  both-pass (x ∷ xs) ys h =
+      by-test (t x)
+      (λ e. let r = both-pass xs ys (omega (arith, h, at-start x (xs ++ ys) e)) in (omega (arith, r.0, at-start x xs e), r.1))
+      (λ e. absurd (omega (arith, h, at-bad x (xs ++ ys) e)))
+
   -- where all pass, the first that fails is the end
   pub none-bad : (xs : List ℕ) → all t xs ≡ true → length xs ≡ first_bad t xs
   none-bad [] e = refl
   none-bad (x ∷ xs) e = let b = and_both (t x) (all t xs) e in omega (arith, at-start x xs b.0, none-bad xs b.1)
 
-  -- entry i passes: all do if those behind it do
-  pub all_more : (xs : List ℕ) (i : ℕ) → i < length xs → t (get_or xs i 0) ≡ true → all t (drop i xs) ≡ all t (drop (suc i) xs)
-  all_more xs i h g = ap (all t) (drop-cons xs i 0 h) ∙ ap (λ (b : Bool). b && all t (drop (suc i) xs)) g
-
-  -- entry i fails: not all pass
-  pub all-not : (xs : List ℕ) (i : ℕ) → i < length xs → t (get_or xs i 0) ≡ false → all t (drop i xs) ≡ false
-  all-not xs i h g = ap (all t) (drop-cons xs i 0 h) ∙ ap (λ (b : Bool). b && all t (drop (suc i) xs)) g
-
-  -- none is left: all passed
-  pub all_end : (xs : List ℕ) (i : ℕ) → i ≡ length xs → all t (drop i xs) ≡ true
-  all_end xs i n = ap (λ (k : ℕ). all t (drop k xs)) n ∙ ap (all t) (drop-length xs)
+-- a code above 2 is not known
+pub known-apart : (x : ℕ) → known_code x ≡ not (ltb 2 x)
+known-apart x = by-test (ltb 2 x) (λ e. rw e (lt-leb x 2 (ltb-true 2 x e))) (λ e. rw e (le-leb x 2 (ltb-false 2 x e)))
 
 -- nothing is left above p + s bits: a word of the set
-pub small_word : (w p s : ℕ) → w / 2 ^ s / 2 ^ p ≡ 0 → is_word p s w ≡ true
+small_word : (w p s : ℕ) → w / 2 ^ s / 2 ^ p ≡ 0 → is_word p s w ≡ true
 small_word w p s e =
     let z : w / 2 ^ (s + p) ≡ 0 = sym (shr-shr w s p) ∙ e in
     let f : 0 * 2 ^ (s + p) + w % 2 ^ (s + p) ≡ w = ap (λ (q : ℕ). q * 2 ^ (s + p) + w % 2 ^ (s + p)) (sym z) ∙ split w (s + p) in
@@ -83,12 +65,16 @@ small_word w p s e =
     lt-ltb w (2 ^ (p + s)) (subst (λ (b : ℕ). w < 2 ^ b) k (omega arith))
 
 -- something is left: too large
-pub large-word : (w p s : ℕ) → (w / 2 ^ s / 2 ^ p ≡ 0 → ⊥) → is_word p s w ≡ false
+large-word : (w p s : ℕ) → (w / 2 ^ s / 2 ^ p ≡ 0 → ⊥) → is_word p s w ≡ false
 large-word w p s h = by-lt (dec_lt w (2 ^ (p + s)))
   where
     by-lt : Dec (w < 2 ^ (p + s)) → is_word p s w ≡ false
     by-lt (yes l) = absurd (h (let k : 0 + p ≡ p = omega arith in let z : w / 2 ^ s / 2 ^ p < 2 ^ 0 = shr_lt 0 p (subst (λ (b : ℕ). w / 2 ^ s < 2 ^ b) (sym k) (shr_lt p s l)) in omega arith))
     by-lt (no n) = le-ltb w (2 ^ (p + s)) (omega arith)
+
+-- a word is one of the set where both shifts leave nothing of it
+pub fits-shifted : (w p s : ℕ) → is_word p s w ≡ not (not (eqb (w / 2 ^ s / 2 ^ p) 0))
+fits-shifted w p s = by-test (eqb (w / 2 ^ s / 2 ^ p) 0) (λ e. rw e (small_word w p s (eqb-true (w / 2 ^ s / 2 ^ p) 0 e))) (λ e. rw e (large-word w p s (eqb-false (w / 2 ^ s / 2 ^ p) 0 e)))
 
 -- no word of a machine has more than 64 bits
 pub none-large-64 : (words : List ℕ) (p s : ℕ) → p + s ≡ 64 → ((i : ℕ) → get_or words i 0 < 2 ^ 64) → length words ≡ first_bad (is_word p s) words
@@ -102,16 +88,16 @@ none-large words p s h e =
     none-bad (is_word p s) words (ap (λ (k : ℕ). all (λ x. ltb x k) words) (sym b) ∙ e)
 
 -- joined bits are 0 if both numbers are
-pub or-none : (a b : ℕ) → eqb (bit_or a b) 0 ≡ (eqb b 0 && eqb a 0)
-or-none a b = iff-eq (eqb (bit_or a b) 0) (eqb b 0 && eqb a 0) apart together
+pub or-none : (a b : ℕ) → eqb (bit_or a b) 0 ≡ (eqb a 0 && eqb b 0)
+or-none a b = iff-eq (eqb (bit_or a b) 0) (eqb a 0 && eqb b 0) apart together
   where
-    apart : eqb (bit_or a b) 0 ≡ true → (eqb b 0 && eqb a 0) ≡ true
+    apart : eqb (bit_or a b) 0 ≡ true → (eqb a 0 && eqb b 0) ≡ true
     apart e =
         let o = or_above a b in
         let z : bit_or a b ≡ 0 = eqb-true (bit_or a b) 0 e in
-        both-and (eqb b 0) (eqb a 0) (eq-eqb b 0 (omega arith)) (eq-eqb a 0 (omega arith))
+        both-and (eqb a 0) (eqb b 0) (eq-eqb a 0 (omega arith)) (eq-eqb b 0 (omega arith))
 
-    together : (eqb b 0 && eqb a 0) ≡ true → eqb (bit_or a b) 0 ≡ true
+    together : (eqb a 0 && eqb b 0) ≡ true → eqb (bit_or a b) 0 ≡ true
     together e =
-        let t = and_both (eqb b 0) (eqb a 0) e in
-        eq-eqb (bit_or a b) 0 (omega (arith, eqb-true b 0 t.0, eqb-true a 0 t.1, or_add_and a b))
+        let t = and_both (eqb a 0) (eqb b 0) e in
+        eq-eqb (bit_or a b) 0 (omega (arith, eqb-true a 0 t.0, eqb-true b 0 t.1, or_add_and a b))

@@ -1,3 +1,4 @@
+pub mod Chains
 pub mod Judging
 pub mod Answering
 pub mod Carrying

@@ -1,6 +1,7 @@
 -- A block of inserts none of whose prefixes has a container, all of them different: one container more for each, and every answer is 1. Assumes nothing.
 use mathlib.Core.Path.{◌≡◌, refl, sym, ap, ap₂, ◌∙◌, subst}
 use mathlib.Core.Logic.{◌≢◌}
+use Rattle.std.specs.Prelude.{Result}
 use mathlib.Core.Bool.{Bool, true, false, cond, not, ◌||◌}
 use mathlib.Core.List.{List, [], ◌∷◌, ◌++◌, map}
 use Prim.Native.Nat.{ℕ, zero, suc, ◌+◌, ◌^◌, ◌≤◌, ◌<◌}
@@ -31,7 +32,7 @@ use Rattle.region.specs.Read.{read, reading}
 use Rattle.region.specs.WellFormed.{WellFormed}
 use Rattle.region.proofs.SeenBits.{seen-bits}
 use Rattle.region.proofs.Facts.{good}
-use Rattle.promises.specs.Refusals.{Told, tell}
+use Rattle.promises.specs.Refusals.{tell}
 use Rattle.promises.specs.Refusals.Told.{gave}
 use Rattle.promises.specs.Reads.{ReadsAs}
 use Rattle.promises.specs.List.{word_of, outcome, no_room, Ran}
@@ -40,7 +41,8 @@ use Rattle.steps.proofs.Places.{clear-unknown}
 use Rattle.wordset_insert.proofs.Inserting.{nodes-few}
 use Rattle.wordset_many.specs.Line.{prefix_at}
 use Rattle.wordset_many.specs.Many.{opened, opened_all, OpenedAs}
-use Rattle.wordset_list.specs.Performing.{RanAs, TriedAs, is_insert}
+use Rattle.wordset_list.specs.declared.commands.NoRoomAt.{NoRoomAt}
+use Rattle.wordset_list.specs.Performing.{BlockRanAs, RanAs, TriedAs, is_insert}
 use Rattle.wordset_list.proofs.Carrying.{word_read}
 
 -- a set that fits has room for more containers as long as their slots are there
@@ -244,7 +246,7 @@ module _ (l codes words answers : List ℕ) (b : Bool) (l' answers' : List ℕ) 
   tried-told told e = subst (λ (x : Bool). TriedAs l codes words answers x l' answers') e t
 
   -- what is run after nothing was done is run of the region and the answers as they were
-  pub ran-after : b ≡ false → {told : Told (Unit {0})} {l'' answers'' : List ℕ} → RanAs l' codes words answers' told l'' answers'' → RanAs l codes words answers told l'' answers''
-  ran-after e {told} {l''} {answers''} r =
+  pub ran-after : b ≡ false → (r : Result (Unit {0}) NoRoomAt) (l'' answers'' : List ℕ) → BlockRanAs l' codes words answers' r l'' answers'' → BlockRanAs l codes words answers r l'' answers''
+  ran-after e r l'' answers'' ran =
       let same = tried-told false e in
-      subst (λ (x : List ℕ). RanAs x codes words answers told l'' answers'') same.0 (subst (λ (x : List ℕ). RanAs l' codes words x told l'' answers'') same.1 r)
+      subst (λ (x : List ℕ). BlockRanAs x codes words answers r l'' answers'') same.0 (subst (λ (x : List ℕ). BlockRanAs l' codes words x r l'' answers'') same.1 ran)

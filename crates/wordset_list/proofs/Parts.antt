@@ -1,11 +1,11 @@
 -- A test of all entries, on a part of them. Assumes nothing.
-use mathlib.Core.Path.{◌≡◌, refl, sym, ap, ap₂, ◌∙◌}
-use mathlib.Core.Bool.{Bool, ◌&&◌, and-true}
+use mathlib.Core.Path.{◌≡◌, refl, ap, ◌∙◌}
+use mathlib.Core.Bool.{Bool, true, ◌&&◌, and-true}
 use mathlib.Core.List.{List, [], ◌∷◌, ◌++◌}
 use Prim.Native.Nat.{ℕ, suc, ◌+◌, ◌≤◌, ◌<◌}
 use native.Mathlib.Omega.{arith}
-use lib.ListN.{length, take, drop, get_or, length-drop, take-append-drop}
-use lib.Seq.{drop-drop, length-take-le, get_or-take, get_or-drop, take-suc}
+use lib.ListN.{length, take, drop, get_or, length-drop}
+use lib.Seq.{length-take-le, get_or-take, get_or-drop, take-suc}
 use Rattle.lists.specs.Lists.{all, first_bad}
 use Rattle.lists.proofs.Laws.{by-test}
 use Rattle.wordset_list.proofs.Judging.{passes, past_end}
@@ -21,16 +21,14 @@ module _ (t : ℕ → Bool) where
       ap t e ∙ passes t xs (i + j) l (omega arith))
 
   -- all of two lists
-  all_append : (xs ys : List ℕ) → all t (xs ++ ys) ≡ (all t xs && all t ys)
+  pub all_append : (xs ys : List ℕ) → all t (xs ++ ys) ≡ (all t xs && all t ys)
   all_append [] ys = refl
   all_append (x ∷ xs) ys = by-test (t x) (λ e. rw e (all_append xs ys)) (λ e. rw e)
 
-  -- all from i on pass, by the part of n and those behind it
-  pub all-part : (xs : List ℕ) (i n : ℕ) (b : Bool) → all t (take n (drop i xs)) ≡ b → all t (drop i xs) ≡ (b && all t (drop (i + n) xs))
-  all-part xs i n b e =
-      ap (all t) (sym (take-append-drop n (drop i xs)))
-      ∙ all_append (take n (drop i xs)) (drop n (drop i xs))
-      ∙ ap₂ ◌&&◌ e (ap (all t) (drop-drop n i xs))
+  -- all of none
+  pub all-none : (xs : List ℕ) → length xs ≡ 0 → all t xs ≡ true
+  all-none [] e = refl
+  all-none (x ∷ xs) e = absurd (omega arith)
 
   -- all up to entry i and with it
   pub all-one-more : (xs : List ℕ) (i : ℕ) → i < length xs → all t (take (suc i) xs) ≡ (all t (take i xs) && t (get_or xs i 0))

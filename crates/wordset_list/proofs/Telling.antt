@@ -1,11 +1,13 @@
 -- What the two promises ask, case by case: one law for each answer. Assumes nothing.
-use mathlib.Core.Path.{◌≡◌, refl, sym, ap, ap₂, ◌∙◌}
+use mathlib.Core.Path.{◌≡◌, refl, sym, ap, ap₂, subst, ◌∙◌}
 use mathlib.Core.Bool.{Bool, true, false, not, ◌&&◌, ◌||◌, true≢false}
 use mathlib.Core.List.{List, [], ◌∷◌, ◌++◌, cons≢nil}
 use Prim.Native.Nat.{ℕ, ◌≤◌, ◌<◌}
+use native.Mathlib.Omega.{arith}
 use lib.Dec.{eqb, ltb, leb}
 use lib.ListN.{length}
 use borrow.Author.Tests.{lt-ltb, le-ltb, ltb-false, leb-true, eqb-true, eq-eqb, ne_eqb, not-false}
+use Rattle.std.specs.Prelude.{Option, Some, None, is_some}
 use Rattle.lists.specs.Lists.{first_bad, all}
 use Rattle.lists.proofs.Laws.{and_both}
 use Rattle.model.specs.Words.{is_word}
@@ -19,6 +21,7 @@ use Rattle.promises.specs.Refusals.{Refusal, Told, refusal, when, failing, tell}
 use Rattle.promises.specs.Refusals.Told.{gave, refused}
 use Rattle.promises.specs.List.{bad_lengths, word_of, outcome, no_room, ListPromise}
 use Rattle.promises.specs.AllMembers.{AllPromise}
+use Rattle.wordset_list.specs.Judged.{FirstBad}
 use Rattle.wordset_list.specs.Performing.{RanAs}
 
 -- a test that first fails at place k gives one refusal
@@ -150,9 +153,20 @@ module _ (region words : List ℕ) where
       all_asked small b e = told-by [] (gave b) (not-many ∙ fails-not 6 (word_of (reading region)) words small) (ap gave e)
 
 -- the first word too large for the header's numbers is the first too large for what the region reads as
-pub first_read : (region words : List ℕ) (p s k : ℕ) → p ≡ (numbers region).P → s ≡ (numbers region).S → k ≡ first_bad (is_word p s) words → k ≡ first_bad (word_of (reading region)) words
+pub first_read : (region words : List ℕ) (p s : ℕ) (r : Option ℕ) → p ≡ (numbers region).P → s ≡ (numbers region).S → FirstBad (is_word p s) words r → FirstBad (word_of (reading region)) words r
 unfolding reading read
-first_read region words p s k e f g = g ∙ ap₂ (λ (x y : ℕ). first_bad (is_word x y) words) e f
+first_read region words p s r e f g = subst (λ (x : ℕ). FirstBad (is_word (numbers region).P x) words r) f (subst (λ (x : ℕ). FirstBad (is_word x s) words r) e g)
+
+-- so where none is too large for the numbers, none is for what the region reads as
+pub none_read : (region words : List ℕ) (p s : ℕ) → p ≡ (numbers region).P → s ≡ (numbers region).S → length words ≡ first_bad (is_word p s) words → length words ≤ first_bad (word_of (reading region)) words
+none_read region words p s e f g =
+    let h : length words ≡ first_bad (word_of (reading region)) words = first_read region words p s None e f g in
+    omega (arith, h)
+
+-- a search that found nothing says that there is nothing to find
+pub none-found : (t : ℕ → Bool) (xs : List ℕ) (r : Option ℕ) → FirstBad t xs r → is_some r ≡ false → length xs ≡ first_bad t xs
+none-found t xs (Some k) g e = absurd (true≢false e)
+none-found t xs None g e = g
 
 -- prefix bits are few enough for a shift
 pub P-high : (l : List ℕ) → WellFormed l → (numbers l).P ≤ 24

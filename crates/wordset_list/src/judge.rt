@@ -1,9 +1,10 @@
 // What is judged of a list before anything runs: its lengths, its codes, its words.
 ghost use Rattle.std.specs.Prelude.{◌≡◌, ◌≤◌};
-ghost use Rattle.lists.specs.Lists.{all, first_bad};
+ghost use Rattle.lists.specs.Lists.{all};
 ghost use Rattle.model.specs.Words.{is_word};
 ghost use Rattle.model.specs.Commands.{known_code};
 ghost use Rattle.promises.specs.List.{bad_lengths};
+ghost use Rattle.wordset_list.specs.Judged.{FirstBad};
 
 use strip::bounds::below;
 
@@ -23,70 +24,38 @@ pub fn bad_lengths(codes: &[u8], words: &[u64], answers: &[u8]) -> bool
     LONGEST < words.len()
 }
 
-// Whether all codes are known, every code looked at.
+// Whether all codes are known, every code looked at: codes are bytes that C lends, and none is a command before it is judged.
 fn all_known(codes: &[u8]) -> bool
     ensures { result ≡ all known_code codes.now }
 {
     let mut known = true;
-    let mut i: usize = 0;
-    while i < codes.len() {
-        known = known & (codes[i] <= 2);
-        i += 1;
+    for &code in codes {
+        known &= code <= 2;
     }
     known
 }
 
-// Code by code.
-fn look_for_unknown(codes: &[u8]) -> usize
-    ensures { result ≡ first_bad known_code codes.now }
-{
-    let mut i: usize = 0;
-    while i < codes.len() {
-        if codes[i] > 2 {
-            return i;
-        }
-        i += 1;
-    }
-    i
-}
-
-// The first place of an unknown code, or the length. Mostly there is none, and that is told without a branch for each code.
-pub fn first_unknown(codes: &[u8]) -> usize
-    ensures { result ≡ first_bad known_code codes.now }
+// The first place of an unknown code. Mostly there is none, and that is told without a branch for each code.
+pub fn first_unknown(codes: &[u8]) -> Option<usize>
+    ensures { FirstBad known_code codes.now result }
 {
     if all_known(codes) {
-        return codes.len();
+        return None;
     }
-    look_for_unknown(codes)
+    codes.iter().position(|code| *code > 2)
 }
 
-// Word by word. Two shifts, since p + s may be 64.
-fn look_for_large(words: &[u64], p: usize, s: usize) -> usize
+// The first place of a word of more than p + s bits: no word has more than 64, and the joined words tell if none has. Two shifts, since p + s may be 64.
+pub fn first_large(words: &[u64], p: usize, s: usize) -> Option<usize>
     requires p_bound { p ≤ 24 }
     requires s_bound { s ≤ 40 }
-    ensures { result ≡ first_bad (is_word p s) words.now }
-{
-    let mut i: usize = 0;
-    while i < words.len() {
-        if (words[i] >> s) >> p != 0 {
-            return i;
-        }
-        i += 1;
-    }
-    i
-}
-
-// The first place of a word of more than p + s bits, or the length: no word has more than 64, and the joined words tell if none has.
-pub fn first_large(words: &[u64], p: usize, s: usize) -> usize
-    requires p_bound { p ≤ 24 }
-    requires s_bound { s ≤ 40 }
-    ensures { result ≡ first_bad (is_word p s) words.now }
+    ensures { FirstBad (is_word p s) words.now result }
 {
     if p + s == 64 {
-        return words.len();
+        return None;
     }
     if below(words, 1u64 << (p + s)) {
-        return words.len();
+        return None;
     }
-    look_for_large(words, p, s)
+    words.iter().position(|w| (*w >> s) >> p != 0)
 }

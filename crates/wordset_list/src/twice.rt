@@ -3,13 +3,13 @@ ghost use Rattle.promises.specs.Answers.{listed};
 ghost use Rattle.wordset_list.specs.Twice.{EndAlike};
 
 use crate::list;
-use promises::Listed;
+use promises::ListRefusal;
 
 // What the two lists were told.
 #[derive(Clone, Copy)]
 struct Both {
-    first: Listed,
-    second: Listed,
+    first: Result<(), ListRefusal>,
+    second: Result<(), ListRefusal>,
 }
 
 // Runs two lists, each on a region of its own. Where the regions are equal and the lists are rearrangements of each other, they end alike.
@@ -27,8 +27,5 @@ fn run_both(
 {
     let first = list(region, codes, words, answers);
     let second = list(copy, others, places, replies);
-    Both {
-        first: first,
-        second: second,
-    }
+    Both { first, second }
 }

@@ -10,7 +10,7 @@ ghost use Rattle.region.specs.Seen.{seen};
 ghost use Rattle.region.specs.Read.{suffixes, reading};
 ghost use Rattle.region.specs.WellFormed.{WellFormed};
 
-use lens::find::{Place, find};
+use lens::find::find;
 use lens::read;
 use strip::search;
 
@@ -36,7 +36,7 @@ pub fn suffix_of(w: u64, bits: usize) -> u64
 pub fn in_vector(region: &[u64], c: usize, s: u64) -> bool
     requires well_formed { WellFormed region.now }
     requires c_bound { c < (numbers region.now).C }
-    requires c_value { (seen (numbers region.now) region.now).kind c ≡ 1 }
+    requires is_vector { (seen (numbers region.now) region.now).kind c ≡ 1 }
     ensures { result ≡ mem s (suffixes (numbers region.now) (seen (numbers region.now) region.now) c) }
 {
     let len = read::size(region, c);
@@ -48,30 +48,30 @@ pub fn in_vector(region: &[u64], c: usize, s: u64) -> bool
 pub fn in_trie(region: &[u64], c: usize, s: u64) -> bool
     requires well_formed { WellFormed region.now }
     requires c_bound { c < (numbers region.now).C }
-    requires c_value { (seen (numbers region.now) region.now).kind c ≡ 2 }
+    requires is_trie { (seen (numbers region.now) region.now).kind c ≡ 2 }
     requires s_bound { s < 2 ^ (numbers region.now).S }
     ensures { result ≡ mem s (suffixes (numbers region.now) (seen (numbers region.now) region.now) c) }
 {
-    let slots = read::n(region);
-    let bits = read::s(region);
+    let shape = read::shape(region);
     let root = read::link(region, c);
     let start = region[13] as usize;
     let end = region[15] as usize;
-    trie::contains(&region[start..end], slots, (bits + 7) / 8, root, s)
+    trie::contains(&region[start..end], shape, root, s)
 }
 
 // Whether the container in slot c holds the suffix s.
 fn in_slot(region: &[u64], c: usize, s: u64) -> bool
     requires well_formed { WellFormed region.now }
     requires c_bound { c < (numbers region.now).C }
-    requires c_nonzero { (seen (numbers region.now) region.now).kind c ≢ 0 }
+    requires in_use { (seen (numbers region.now) region.now).kind c ≢ 0 }
     requires s_bound { s < 2 ^ (numbers region.now).S }
     ensures { result ≡ mem s (suffixes (numbers region.now) (seen (numbers region.now) region.now) c) }
 {
     if read::kind(region, c) == 1 {
-        return in_vector(region, c, s);
+        in_vector(region, c, s)
+    } else {
+        in_trie(region, c, s)
     }
-    in_trie(region, c, s)
 }
 
 // Whether the word w is a member. The hint may be any number.
@@ -82,7 +82,7 @@ pub fn contains(region: &[u64], w: u64, hint: usize) -> bool
 {
     let bits = read::s(region);
     match find(region, prefix_of(w, bits), hint) {
-        Place::At(c) => in_slot(region, c, suffix_of(w, bits)),
-        Place::Nowhere => false,
+        Some(c) => in_slot(region, c, suffix_of(w, bits)),
+        None => false,
     }
 }

@@ -1,9 +1,9 @@
 -- Opening many as the code does it: what each call asks, by what is written so far. Assumes nothing.
-use Prim.Native.Nat.{ℕ, suc, ◌+◌, ◌-◌, ◌^◌, ◌<◌, ◌≤◌, min}
+use Prim.Native.Nat.{ℕ, suc, ◌+◌, ◌-◌, ◌^◌, ◌<◌, ◌≤◌}
 use mathlib.Core.Path.{◌≡◌, sym, ap, ◌∙◌, subst}
 use mathlib.Core.List.{List}
 use native.Mathlib.Omega.{arith}
-use lib.ListN.{length, take, get_or, set, length-take}
+use lib.ListN.{length, take, get_or, set}
 use lib.Seq.{take_all, take-take}
 use Rattle.model.specs.Words.{prefix_of, suffix_of}
 use Rattle.region.specs.Areas.{Numbers, numbers}
@@ -18,7 +18,7 @@ use Rattle.wordset_lookup.proofs.Looks.{prefix-small}
 use Rattle.wordset_many.specs.Wedge.{place_in, Wedged}
 use Rattle.wordset_many.specs.Line.{prefix_at, lined, LinedUp}
 use Rattle.wordset_many.specs.Many.{opened_all}
-use Rattle.wordset_many.proofs.OpeningKeys.{Openable, slot_small, places-fit, places-rise}
+use Rattle.wordset_many.proofs.OpeningKeys.{Openable, places-fit, places-rise}
 use Rattle.wordset_many.proofs.Opening.{Going, going-free, start, step, finish}
 
 -- what open_all is given
@@ -32,19 +32,12 @@ pub keys-are : {l words : List ℕ} {n : ℕ} {keys : List ℕ} → length keys 
 keys-are {l} {words} {n} {keys} e up = sym (take_all n keys (omega (arith, e))) ∙ up.are
 
 -- the first keys alone are lined up too
-pub front-lined : {l words : List ℕ} {n : ℕ} (keys : List ℕ) (e : ℕ) → e ≡ n → LinedUp l words n keys → LinedUp l words n (take e keys)
-front-lined {l} {words} {n} keys e same up =
-    subst (λ (z : ℕ). LinedUp l words n (take z keys)) (sym same) (record { long = up.long; are = take-take n n keys (omega arith) ∙ up.are; differ = up.differ })
+pub front-lined : {l words : List ℕ} {n : ℕ} (keys : List ℕ) → LinedUp l words n keys → LinedUp l words n (take n keys)
+front-lined {l} {words} {n} keys up = record { long = up.long; are = take-take n n keys (omega arith) ∙ up.are; differ = up.differ }
 
 -- and they are as many as the words
-pub front_long : {l words : List ℕ} {n : ℕ} (keys : List ℕ) (e : ℕ) → e ≡ n → LinedUp l words n keys → length (take e keys) ≡ n
-front_long {l} {words} {n} keys e same up = ap (λ (z : ℕ). length (take z keys)) same ∙ ap length up.are ∙ up.long
-
--- so there are as many keys as words
-pub front_fits : {l words : List ℕ} {n : ℕ} (keys : List ℕ) → LinedUp l words n keys → n ≤ length keys
-front_fits {l} {words} {n} keys up =
-    let e : min n (length keys) ≡ n = sym (length-take n keys) ∙ ap length up.are ∙ up.long in
-    omega (arith, e)
+pub front_long : {l words : List ℕ} {n : ℕ} (keys : List ℕ) → LinedUp l words n keys → length (take n keys) ≡ n
+front_long {l} {words} {n} keys up = ap length up.are ∙ up.long
 
 -- Written so far: i of the words
 pub record Written (l words : List ℕ) (n i : ℕ) (m : List ℕ) : Type 0 where
@@ -64,9 +57,6 @@ module _ {l words : List ℕ} {n : ℕ} (q : Openable l words n) where
 
     -- the turn of word i
     module _ (below : i < n) (k slots bits : ℕ) (ek : k ≡ (numbers l).k) (es : slots ≡ (numbers l).C) (eb : bits ≡ (numbers l).S) where
-      pub free-ready : Ready m × (slots - (k + i + 1) < (numbers m).C)
-      free-ready = (ready, omega (arith, ek, es, C-same, q.room))
-
       module _ (p : ℕ) (ep : p ≡ prefix_of bits (get_or words i 0)) (c : ℕ) (ec : c ≡ (seen (numbers m) m).free (slots - (k + i + 1))) where
         slot_is : c ≡ (seen (numbers l) l).free ((numbers l).C - suc ((numbers l).k + i))
         slot_is =
@@ -75,11 +65,6 @@ module _ {l words : List ℕ} {n : ℕ} (q : Openable l words n) where
 
         prefix-is : p ≡ prefix_at l words i
         prefix-is = ep ∙ ap (λ (z : ℕ). prefix_of z (get_or words i 0)) eb
-
-        pub fill-ready : Ready m × (c < (numbers m).C)
-        fill-ready =
-            let z : c < (numbers l).C = subst (λ (d : ℕ). d < (numbers l).C) (sym slot_is) (slot_small q i below) in
-            (ready, omega (arith, z, C-same))
 
         module _ (s : ℕ) (e : s ≡ suffix_of bits (get_or words i 0)) {m₁ : List ℕ} (b : Became (filled c p s) m m₁) where
           pub mark-ready : Ready m₁ × (p < 2 ^ (numbers m₁).P)

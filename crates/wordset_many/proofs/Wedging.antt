@@ -8,7 +8,7 @@ use native.Mathlib.Omega.{arith}
 use native.Mathlib.Decide.{ℕ_discrete, dec_lt}
 use lib.Dec.{eqb, ltb}
 use lib.ListN.{length, get_or, set, drop, length-set}
-use lib.Seq.{get_or-take, get_or-drop, get_or-set_other, drop-cons, drop-length}
+use lib.Seq.{get_or-take, get_or-drop, get_or-set_other, drop-cons}
 use borrow.Author.Tests.{ltb-true, ltb-false, eqb-false, eq-eqb, ne_eqb, lt-ltb, le-ltb}
 use borrow.Rule.Slice.PartMut.{mid_of, put_mid}
 use Rattle.lists.specs.Lists.{mem, keep, put}
@@ -17,7 +17,7 @@ use Rattle.region.proofs.Areas.{get_or-area}
 use Rattle.lens.proofs.Only.{Only, put_only, area-put, word_below, word-above}
 use Rattle.wordset_slots.proofs.Shifting.{set_here}
 use Rattle.wordset_slots.proofs.Moving.{part-long}
-use Rattle.wordset_many.specs.Wedge.{place_in, slot_in, wedged, wedged_all, Wedged}
+use Rattle.wordset_many.specs.Wedge.{place_in, slot_in, wedged, wedged_all}
 
 -- One slot
 
@@ -103,29 +103,6 @@ wedge-put f key (x ∷ xs) a n p r =
         ∙ wedged-swap (place_in x) (slot_in x) (place_in key + less key xs) (slot_in key) (wedged_all xs f) r w
         ∙ ap (λ (b : ℕ). wedged b (slot_in key) (wedged_all (x ∷ xs) f) r) z)
 
--- A part lifted, from its end: places i on are moved
-
-pub record Lifting (by i : ℕ) (s t : List ℕ) : Type 0 where
-  pub fits : i + by ≤ length s
-  pub long : length t ≡ length s
-  pub left : (r : ℕ) → r < i → get_or t r 0 ≡ get_or s r 0
-  pub moved : (r : ℕ) → i ≤ r → r + by < length s → get_or t (r + by) 0 ≡ get_or s r 0
-
-pub lift-start : (by : ℕ) (s : List ℕ) → by ≤ length s → Lifting by (length s - by) s s
-lift-start by s h = record { fits = omega arith; long = refl; left = λ r l. refl; moved = λ r a b. absurd (omega arith) }
-
-pub lift-next : {by i : ℕ} {s t : List ℕ} → Lifting by i s t → 0 < i → Lifting by (i - 1) s (set t ((i - 1) + by) (get_or t (i - 1) 0))
-lift-next {by} {i} {s} {t} u p = record {
-  fits = omega (arith, u.fits);
-  long = length-set t ((i - 1) + by) (get_or t (i - 1) 0) ∙ u.long;
-  left = λ r l. get_or-set_other t ((i - 1) + by) r (get_or t (i - 1) 0) 0 (omega arith) ∙ u.left r (omega arith);
-  moved = λ r a b. pick r a b (ℕ_discrete r (i - 1));
-}
-  where
-    pick : (r : ℕ) → i - 1 ≤ r → r + by < length s → Dec (r ≡ i - 1) → get_or (set t ((i - 1) + by) (get_or t (i - 1) 0)) (r + by) 0 ≡ get_or s r 0
-    pick r a b (yes e) = set_here t ((i - 1) + by) (r + by) (get_or t (i - 1) 0) (omega arith) (omega (arith, u.long, u.fits)) ∙ u.left (i - 1) (omega arith) ∙ ap (λ (z : ℕ). get_or s z 0) (sym e)
-    pick r a b (no n) = get_or-set_other t ((i - 1) + by) (r + by) (get_or t (i - 1) 0) 0 (omega arith) ∙ u.moved r (omega arith) b
-
 -- Many slots, from the last on: j keys are left, and what stands below `end` is as it was
 
 module _ (k : ℕ) (keys s : List ℕ) where
@@ -141,28 +118,13 @@ module _ (k : ℕ) (keys s : List ℕ) where
     pub under : (r : ℕ) → r < end → wedged_all (drop j keys) old r ≡ old r
     pub done : (r : ℕ) → end ≤ r → r < k + (length keys - j) → get_or t (r + j) 0 ≡ wedged_all (drop j keys) old r
 
-  pub wedge-start : ((j : ℕ) → j < length keys → place_in (get_or keys j 0) ≤ k) → Wedging k (length keys) s
-  wedge-start p = record {
-    fits = omega arith;
-    low = omega arith;
-    next = λ h. p (length keys - 1) (omega arith);
-    long = refl;
-    left = λ r l. refl;
-    under = λ r l. ap (λ (z : List ℕ). wedged_all z old r) (drop-length keys);
-    done = λ r a b. absurd (omega arith);
-  }
+-- the part that a turn lifts, of the n = j places that are opened, stands in the table
+module _ (k : ℕ) (keys s : List ℕ) {end j : ℕ} {t : List ℕ} (w : Wedging k keys s end j t) where
+  pub turn_low : (at : ℕ) → 0 < j → at ≡ place_in (get_or keys (j - 1) 0) → at ≤ end
+  turn_low at p e = omega (arith, w.next p, e)
 
-  pub wedge-end : {end j : ℕ} {t : List ℕ} → Wedging end j t → j ≡ 0 → Wedged k keys s t
-  wedge-end {end} {j} {t} w e = record { long = w.long; at = λ r l. pick r l (dec_lt r end) }
-    where
-      none : (r : ℕ) → wedged_all (drop j keys) old r ≡ wedged_all keys old r
-      none r = ap (λ (z : ℕ). wedged_all (drop z keys) old r) e
-
-      pick : (r : ℕ) → r < k + length keys → Dec (r < end) → get_or t r 0 ≡ wedged_all keys old r
-      pick r l (yes h) = w.left r h ∙ sym (w.under r h) ∙ none r
-      pick r l (no h) =
-          let z : r ≡ r + j = omega arith in
-          ap (λ (y : ℕ). get_or t y 0) z ∙ w.done r (omega arith) (omega arith) ∙ none r
+  pub turn_inside : k + length keys ≤ length s → (n : ℕ) → n ≡ j → end + n ≤ length t
+  turn_inside fit n e = omega (arith, w.fits, w.low, w.long, e)
 
 -- places at to end - 1 stand j higher, and what is past the place they reach is as it was
 pub record Lifted (at end j : ℕ) (t u : List ℕ) : Type 0 where

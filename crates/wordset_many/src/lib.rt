@@ -50,14 +50,11 @@ fn open_all(region: &mut [u64], words: &[u64], keys: &[u64])
     let slots = read::c(region);
     let bits = read::s(region);
     let count = read::count(region);
-    let mut i: usize = 0;
-    while i < words.len() {
-        let w = words[i];
+    for (i, &w) in words.iter().enumerate() {
         let p = prefix_of(w, bits);
         let c = read::free(region, slots - (k + i + 1));
         write::fill(region, c, p, suffix_of(w, bits));
         write::mark(region, p);
-        i += 1;
     }
     ranks_apart(region, k, keys);
     write::counts(region, k + words.len(), count + words.len() as u64);
@@ -79,6 +76,6 @@ pub fn open_new(region: &mut [u64], words: &[u64], hints: &[u64; 64]) -> bool
     if !line_up(region, words, hints, &mut keys) {
         return false;
     }
-    open_all(region, words, &keys[0..n]);
+    open_all(region, words, &keys[..n]);
     true
 }

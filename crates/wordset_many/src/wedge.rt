@@ -36,11 +36,7 @@ fn lift(part: &mut [u64], by: usize)
     ensures long { length part.new ≡ length part.old }
     ensures moved { (r : ℕ) → r + by < length part.old → get_or part.new (r + by) 0 ≡ get_or part.old r 0 }
 {
-    let mut i = part.len() - by;
-    while 0 < i {
-        i -= 1;
-        part[i + by] = part[i];
-    }
+    part.copy_within(..part.len() - by, by);
 }
 
 // Puts the slot of each key at its place among the k in use, from the last on.
@@ -51,14 +47,12 @@ pub fn wedge(ranks: &mut [u64], k: usize, keys: &[u64])
     requires by_index_2 { (j : ℕ) → suc j < length keys.now → place_in (get_or keys.now j 0) ≤ place_in (get_or keys.now (suc j) 0) }
     ensures { Wedged k keys.now ranks.old ranks.new }
 {
-    let mut j = keys.len();
     let mut end = k;
-    while 0 < j {
-        let key = keys[j - 1];
+    for j in (0..keys.len()).rev() {
+        let key = keys[j];
         let at = place_in(key);
-        lift(&mut ranks[at..end + j], j);
-        ranks[at + (j - 1)] = slot_in(key);
+        lift(&mut ranks[at..end + (j + 1)], j + 1);
+        ranks[at + j] = slot_in(key);
         end = at;
-        j -= 1;
     }
 }

@@ -6,6 +6,7 @@ use mathlib.Core.Bool.{Bool, true, false, cond}
 use mathlib.Core.List.{List, ◌∷◌}
 use native.Mathlib.Omega.{arith}
 use lib.Dec.{eqb}
+use Rattle.std.specs.Prelude.{Option, Some, None}
 use lib.ListN.{length, take, drop, get_or}
 use lib.Seq.{get_or-drop, get_or-take}
 use borrow.Author.Tests.{eqb-true, eqb-false, eq-eqb, ne_eqb, ltb-true}
@@ -30,8 +31,6 @@ use Rattle.promises.specs.Reads.{ReadsAs}
 use Rattle.lens.proofs.Words.{entry-is}
 use Rattle.steps.specs.Commands.{Did}
 use Rattle.steps.proofs.Bridge.{has-set, remove-clear, remove-other, remove-member, remove-only, length_taken, left-some, left-none}
-use Rattle.strip.specs.declared.Found.{Found}
-use Rattle.strip.specs.declared.Found.TheVariants.{At, Nothing}
 use Rattle.strip.specs.Entries.{First, Finds}
 use Rattle.wordset_lookup.proofs.Looks.{prefix-small, clear-answer, vector-part}
 use Rattle.wordset_trie.specs.Answers.{ReadsWith, TakenAs}
@@ -97,10 +96,10 @@ module _ (l : List ℕ) (wf : WellFormed l) where
         part = take ((a + n) - a) (drop a l)
 
         -- none is found
-        pub nothing-there : (r : Found) → Finds part s r → r ≡ Nothing → mem s old ≡ false
+        pub nothing-there : (r : Option ℕ) → Finds part s r → r ≡ None → mem s old ≡ false
         nothing-there r f e = ap (mem s) (sym (vector-part l wf c h k a n ea en)) ∙ subst (Finds part s) e f
 
-        module _ (found : Found) (finds : Finds part s found) {i : ℕ} (told : found ≡ At i) where
+        module _ (found : Option ℕ) (finds : Finds part s found) {i : ℕ} (told : found ≡ Some i) where
           f : First part s i
           f = subst (Finds part s) told finds
 

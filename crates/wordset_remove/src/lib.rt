@@ -9,9 +9,8 @@ ghost use Rattle.region.specs.WellFormed.{WellFormed};
 ghost use Rattle.steps.specs.Commands.{Did};
 ghost use Rattle.wordset_remove.specs.Answers.{LeftAs};
 
-use lens::find::{Place, find as find_slot};
+use lens::find::find as find_slot;
 use lens::read;
-use strip::Found;
 use strip::search::find;
 use strip::trievec::TrieVec;
 use wordset_cross::shrink;
@@ -22,36 +21,35 @@ use wordset_slots::close;
 fn from_vector(region: &mut [u64], c: usize, s: u64, hint: usize) -> bool
     requires well_formed { WellFormed region.old }
     requires c_bound { c < (numbers region.old).C }
-    requires c_value { (seen (numbers region.old) region.old).kind c ≡ 1 }
+    requires is_vector { (seen (numbers region.old) region.old).kind c ≡ 1 }
     ensures { LeftAs c s region.old result region.new }
 {
     let len = read::size(region, c);
     let start = region[12] as usize + 1024 * c;
-    match find(&region[start..start + len], s) {
-        Found::At(i) => {
-            if len == 1 {
-                close(region, c, hint);
-            } else {
-                wordset_vector::take(region, c, i);
-            }
-            true
-        }
-        Found::Nothing => false,
+    let Some(i) = find(&region[start..start + len], s) else {
+        return false;
+    };
+    if len == 1 {
+        close(region, c, hint);
+    } else {
+        wordset_vector::take(region, c, i);
     }
+    true
 }
 
 // Takes s out of the trie in slot c, if it is there: whether it was. On falling to the threshold the trie becomes a vector.
 fn from_trie(region: &mut [u64], c: usize, s: u64) -> bool
     requires well_formed { WellFormed region.old }
     requires c_bound { c < (numbers region.old).C }
-    requires c_value { (seen (numbers region.old) region.old).kind c ≡ 2 }
+    requires is_trie { (seen (numbers region.old) region.old).kind c ≡ 2 }
     requires s_bound { s < 2 ^ (numbers region.old).S }
     ensures { LeftAs c s region.old result region.new }
 {
     if read::size(region, c) == TrieVec::THRESHOLD + 1 {
-        return shrink(region, c, s);
+        shrink(region, c, s)
+    } else {
+        wordset_trie::take(region, c, s)
     }
-    wordset_trie::take(region, c, s)
 }
 
 // Removes the word w, if it is a member: whether it was one. The hint, any number, is where its container may stand. Removing the last suffix of a prefix frees its container.
@@ -63,13 +61,14 @@ pub fn remove(region: &mut [u64], w: u64, hint: usize) -> bool
     let bits = read::s(region);
     let p = prefix_of(w, bits);
     match find_slot(region, p, hint) {
-        Place::At(c) => {
+        Some(c) => {
             let s = suffix_of(w, bits);
             if read::kind(region, c) == 1 {
-                return from_vector(region, c, s, hint);
+                from_vector(region, c, s, hint)
+            } else {
+                from_trie(region, c, s)
             }
-            from_trie(region, c, s)
         }
-        Place::Nowhere => false,
+        None => false,
     }
 }

@@ -7,11 +7,7 @@ fn raise(part: &mut [u64], x: u64)
     requires { 1 ≤ length part.old }
     ensures { ShiftedUp 0 (length part.old - 1) x part.old part.new }
 {
-    let mut i = part.len() - 1;
-    while 0 < i {
-        part[i] = part[i - 1];
-        i -= 1;
-    }
+    part.copy_within(..part.len() - 1, 1);
     part[0] = x;
 }
 
@@ -20,11 +16,7 @@ fn lower(part: &mut [u64])
     requires { 1 ≤ length part.old }
     ensures { ShiftedDown 0 (length part.old) part.old part.new }
 {
-    let mut i: usize = 0;
-    while i + 1 < part.len() {
-        part[i] = part[i + 1];
-        i += 1;
-    }
+    part.copy_within(1.., 0);
 }
 
 // Places at to k - 1 move up by one, and x stands at `at`.

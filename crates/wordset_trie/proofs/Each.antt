@@ -23,7 +23,7 @@ use Rattle.trie_each.specs.Each.{put_each, InsertedEach}
 use Rattle.wordset_vector.proofs.Counting.{few-suffixes}
 use Rattle.wordset_trie.specs.Settled.{Settled}
 use Rattle.wordset_trie.specs.Answers.{held_in, FullFor, PutEach}
-use Rattle.wordset_trie.proofs.Lent.{lent_of, with_lent, good-put, suffix-bits, held-is, ms-ascend, ms-small, ms-length, trie-many, given-ready, reads-with, numbers_after, held_after}
+use Rattle.wordset_trie.proofs.Lent.{as-shown, lent_of, with_lent, good-put, suffix-bits, held-is, ms-ascend, ms-small, ms-length, trie-many, given-ready, reads-with, numbers_after, held_after}
 
 -- Suffixes put one after the other
 
@@ -49,7 +49,10 @@ module _ (l : List ℕ) (wf : WellFormed l) (c : ℕ) (h : c < (numbers l).C) (k
   abbrev ms : List ℕ
   ms = suffixes g v c
 
-  module _ (root : ℕ) (ss : List ℕ) (r : Many) (new : List ℕ) (er : root ≡ v.link c) (small : (i : ℕ) → i < length ss → get_or ss i 0 < 2 ^ g.S) (i : InsertedEach g.N b g.used root ss (lent_of l) r new) where
+  module _ (root : ℕ) (ss : List ℕ) (r : Many) (new : List ℕ) (er : root ≡ v.link c) (small : (i : ℕ) → i < length ss → get_or ss i 0 < 2 ^ g.S) (N d : ℕ) (en : N ≡ g.N) (ed : d ≡ b) (j : InsertedEach N d g.used root ss (lent_of l) r new) where
+    i : InsertedEach g.N b g.used root ss (lent_of l) r new
+    i = as-shown (λ x y. InsertedEach x y g.used root ss (lent_of l) r new) en ed j
+
     -- the suffixes afterwards
     abbrev after : List ℕ
     after = put_each ms (take r.done ss)

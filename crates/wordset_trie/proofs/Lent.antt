@@ -2,7 +2,7 @@
 use Prim.Native.Nat.{ℕ, ◌+◌, ◌-◌, ◌*◌, ◌^◌, ◌<◌, ◌≤◌}
 use mathlib.Core.Path.{◌≡◌, refl, sym, ap, ◌∙◌, subst}
 use mathlib.Core.Bool.{true, not, ◌&&◌}
-use mathlib.Core.List.{List, [], ◌∷◌, ◌++◌}
+use mathlib.Core.List.{List, ◌++◌}
 use native.Mathlib.Omega.{arith}
 use lib.Dec.{eqb, leb}
 use lib.Pow.{pow_mono}
@@ -43,6 +43,10 @@ lent_of l = mid_of (get_or l 13 0) (get_or l 15 0 - get_or l 13 0) l
 
 abbrev pub with_lent : List ℕ → List ℕ → List ℕ
 with_lent l new = put_mid (get_or l 13 0) (get_or l 15 0 - get_or l 13 0) l new
+
+-- what holds at numbers of slots and levels holds at those that they are shown to be
+pub as-shown : (P : ℕ → ℕ → Type 0) {N N' b b' : ℕ} → N ≡ N' → b ≡ b' → P N b → P N' b'
+as-shown P {N} {N'} {b} {b'} en eb p = subst (λ (x : ℕ). P x b') en (subst (P N) eb p)
 
 -- Suffixes of a trie
 
@@ -124,19 +128,16 @@ module _ (l : List ℕ) (wf : WellFormed l) (c : ℕ) (h : c < (numbers l).C) (k
   lent-ready = subst (λ (y : List ℕ). Arena g.N b g.used y × Root (nodes_in g.N y) g.N (v.link c)) (sym lent_is)
       (arena-of g (parts_of g l) wf.shape (sized (begin l wf.ready)), root-of g (parts_of g l) wf.shape (sized (begin l wf.ready)) c h k)
 
-  -- what inserts of several suffixes ask
-  pub asked-each : (root : ℕ) (ss : List ℕ) → root ≡ v.link c → ((i : ℕ) → i < length ss → get_or ss i 0 < 2 ^ g.S)
-      → Arena g.N b g.used (lent_of l) × (Root (nodes_in g.N (lent_of l)) g.N root × ((1 ≤ b) × ((b ≤ 5) × ((i : ℕ) → i < length ss → get_or ss i 0 < 2 ^ (8 * b)))))
-  asked-each root ss e small =
-      let p : 2 ^ g.S ≤ 2 ^ (8 * b) = pow_mono (omega arith) in
-      (lent-ready.0, (subst (λ (n : ℕ). Root (nodes_in g.N (lent_of l)) g.N n) (sym e) lent-ready.1, (omega (arith, suffix-bits.0), (omega (arith, suffix-bits.1), λ i j. omega (arith, p, small i j)))))
+  -- the arena of a shape with as many slots and levels
+  module _ {N d : ℕ} (en : N ≡ g.N) (ed : d ≡ b) where
+    pub asked-arena : Arena N d g.used (lent_of l)
+    asked-arena = as-shown (λ x y. Arena x y g.used (lent_of l)) (sym en) (sym ed) lent-ready.0
 
-  -- what an insert and a removal ask
-  pub asked : (root s : ℕ) → root ≡ v.link c → s < 2 ^ g.S
-      → Arena g.N b g.used (lent_of l) × (Root (nodes_in g.N (lent_of l)) g.N root × ((1 ≤ b) × ((b ≤ 5) × (s < 2 ^ (8 * b)))))
-  asked root s e small =
-      let r = asked-each root (s ∷ []) e (λ i j. let z : i ≡ 0 = omega arith in subst (λ (n : ℕ). get_or (s ∷ []) n 0 < 2 ^ g.S) (sym z) small) in
-      (r.0, (r.1.0, (r.1.1.0, (r.1.1.1.0, r.1.1.1.1 0 (omega arith)))))
+    pub asked-root : {root : ℕ} → root ≡ v.link c → Root (nodes_in N (lent_of l)) N root
+    asked-root {root} e = subst (λ (x : ℕ). Root (nodes_in x (lent_of l)) x root) (sym en) (subst (Root (nodes_in g.N (lent_of l)) g.N) (sym e) lent-ready.1)
+
+    pub asked-suffix : {s : ℕ} → s < 2 ^ g.S → s < 2 ^ (8 * d)
+    asked-suffix small = let p : 2 ^ g.S ≤ 2 ^ (8 * d) = pow_mono (omega arith) in omega (arith, p, small)
 
   given : (new : List ℕ) → length new ≡ g.N + node_words * g.N → Holding g (with_arena (take g.N new) (drop g.N new) (parts_of g l)) l (with_lent l new)
   given new long = give-arena (begin l wf.ready) (get_or l 13 0) (get_or l 15 0) new wf.ready.header.node-stack wf.ready.header.total-length long

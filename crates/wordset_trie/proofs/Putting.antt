@@ -1,4 +1,5 @@
 -- A put in a trie of a region, answer by answer. Assumes nothing.
+use Rattle.std.specs.Prelude.{Option, Some, None, Result, Ok, Err}
 use Prim.Native.Nat.{ℕ, suc, ◌+◌, ◌^◌, ◌<◌}
 use mathlib.Core.Path.{◌≡◌, sym, ap, ◌∙◌, subst}
 use mathlib.Core.Bool.{true, false}
@@ -14,12 +15,11 @@ use Rattle.region.specs.Seen.{Seen, seen}
 use Rattle.region.specs.Read.{suffixes}
 use Rattle.region.specs.WellFormed.{Ready, WellFormed}
 use Rattle.arena.specs.Arena.{nodes_in, Became}
-use Rattle.trie.specs.declared.Inserted.{Inserted}
-use Rattle.trie.specs.declared.Inserted.TheVariants.{New, Old, NoRoom}
+use Rattle.arena.specs.declared.NoRoom.{NoRoom}
 use Rattle.trie.specs.Answers.{NoRoomFor, InsertedAs}
 use Rattle.wordset_trie.specs.Settled.{Settled}
 use Rattle.wordset_trie.specs.Answers.{ReadsWith}
-use Rattle.wordset_trie.proofs.Lent.{lent_of, with_lent, good-put, held-is, ms-ascend, ms-small, ms-length, trie-many, given-ready, reads-with, unchanged}
+use Rattle.wordset_trie.proofs.Lent.{as-shown, lent_of, with_lent, good-put, held-is, ms-ascend, ms-small, ms-length, trie-many, given-ready, reads-with, unchanged}
 
 module _ (l : List ℕ) (wf : WellFormed l) (c : ℕ) (h : c < (numbers l).C) (k : (seen (numbers l) l).kind c ≡ 2) where
   abbrev g : Numbers
@@ -34,19 +34,25 @@ module _ (l : List ℕ) (wf : WellFormed l) (c : ℕ) (h : c < (numbers l).C) (k
   abbrev ms : List ℕ
   ms = suffixes g v c
 
-  module _ (root s : ℕ) (o : Inserted) (new : List ℕ) (er : root ≡ v.link c) (i : InsertedAs g.N b g.used root s (lent_of l) o new) where
+  module _ (root s : ℕ) (o : Result (Option ℕ) NoRoom) (new : List ℕ) (er : root ≡ v.link c) (N d : ℕ) (en : N ≡ g.N) (ed : d ≡ b) (j : InsertedAs N d g.used root s (lent_of l) o new) where
+    abbrev As : Result (Option ℕ) NoRoom → Type 0
+    As a = InsertedAs g.N b g.used root s (lent_of l) a new
+
+    i : As o
+    i = as-shown (λ x y. InsertedAs x y g.used root s (lent_of l) o new) en ed j
+
     held : members (nodes_in g.N (lent_of l)) b root ≡ ms
     held = ap (members (nodes_in g.N (lent_of l)) b) er ∙ held-is l wf c h k
 
-    module _ {used' : ℕ} (e : o ≡ New used') where
+    module _ {used' : ℕ} (e : o ≡ Ok (Some used')) where
       was-none : mem s ms ≡ false
-      was-none = ap (mem s) (sym held) ∙ (subst (λ (a : Inserted). InsertedAs g.N b g.used root s (lent_of l) a new) e i).0
+      was-none = ap (mem s) (sym held) ∙ (subst As e i).0
 
       became : Became g.N b g.used (lent_of l) (v.link c) (put s ms) used' new
       became =
           subst (λ (n : ℕ). Became g.N b g.used (lent_of l) n (put s ms) used' new) er
           (subst (λ (ss : List ℕ). Became g.N b g.used (lent_of l) root (put s ss) used' new) held
-          (subst (λ (a : Inserted). InsertedAs g.N b g.used root s (lent_of l) a new) e i).1)
+          (subst As e i).1)
 
       pub put-ready : Ready (with_lent l new) × (c < (numbers (with_lent l new)).C)
       put-ready = given-ready l wf c h k became
@@ -59,12 +65,12 @@ module _ (l : List ℕ) (wf : WellFormed l) (c : ℕ) (h : c < (numbers l).C) (k
                 (good-put g.S s ms (ms-ascend l wf c h k) (ms-small l wf c h k) small) st,
           )
 
-    pub put-old : o ≡ Old → (mem s ms ≡ true) × (with_lent l new ≡ l)
+    pub put-old : o ≡ Ok None → (mem s ms ≡ true) × (with_lent l new ≡ l)
     put-old e =
-        let a = subst (λ (a : Inserted). InsertedAs g.N b g.used root s (lent_of l) a new) e i in
+        let a = subst As e i in
         (ap (mem s) (sym held) ∙ a.0, unchanged l wf c h k new a.1)
 
-    pub put_full : o ≡ NoRoom → NoRoomFor g.N b g.used s ms × (with_lent l new ≡ l)
+    pub put_full : {q : NoRoom} → o ≡ Err q → NoRoomFor g.N b g.used s ms × (with_lent l new ≡ l)
     put_full e =
-        let a = subst (λ (a : Inserted). InsertedAs g.N b g.used root s (lent_of l) a new) e i in
+        let a = subst As e i in
         (subst (NoRoomFor g.N b g.used s) held a.0, unchanged l wf c h k new a.1)

@@ -1,5 +1,5 @@
 -- What the answers of a put, of puts of several suffixes, and of a take say. l is the region at entry and l' at exit; the suffixes are those of slot c at entry. Assumes nothing.
-use Rattle.std.specs.Prelude.{ℕ, ◌<◌, ◌≤◌, ◌≡◌, Bool, true, false, List, length, take, get_or}
+use Rattle.std.specs.Prelude.{ℕ, ◌<◌, ◌≤◌, ◌≡◌, Bool, true, false, List, length, take, get_or, Result, Ok, Err}
 use Rattle.lists.specs.Lists.{mem, put, without}
 use Rattle.model.specs.Words.{bytes_of}
 use Rattle.model.specs.Change.{placed, with}
@@ -9,8 +9,7 @@ use Rattle.region.specs.Read.{suffixes, reading}
 use Rattle.promises.specs.Reads.{ReadsAs}
 use Rattle.trie.specs.Answers.{NoRoomFor}
 use Rattle.trie_each.specs.Each.{put_each}
-use Rattle.wordset_trie.specs.declared.Outcome.{Outcome}
-use Rattle.wordset_trie.specs.declared.Outcome.TheVariants.{New, Old, NoRoom}
+use Rattle.arena.specs.declared.NoRoom.{NoRoom}
 
 -- the suffixes in slot c of a region
 abbrev pub held_in : ℕ → List ℕ → List ℕ
@@ -25,10 +24,10 @@ abbrev pub FullFor : ℕ → ℕ → List ℕ → Type 0
 FullFor c s l = NoRoomFor (numbers l).N (bytes_of (numbers l).S) (numbers l).used s (held_in c l)
 
 -- s was new and is a member now; it was one already; or there is no room for it. But for the first nothing is changed
-abbrev pub PutAs : ℕ → ℕ → List ℕ → Outcome → List ℕ → Type 0
-PutAs c s l New l' = (mem s (held_in c l) ≡ false) × ReadsWith c (put s (held_in c l)) l l'
-PutAs c s l Old l' = (mem s (held_in c l) ≡ true) × (l' ≡ l)
-PutAs c s l NoRoom l' = FullFor c s l × (l' ≡ l)
+abbrev pub PutAs : ℕ → ℕ → List ℕ → Result Bool NoRoom → List ℕ → Type 0
+PutAs c s l (Ok true) l' = (mem s (held_in c l) ≡ false) × ReadsWith c (put s (held_in c l)) l l'
+PutAs c s l (Ok false) l' = (mem s (held_in c l) ≡ true) × (l' ≡ l)
+PutAs c s l (Err e) l' = FullFor c s l × (l' ≡ l)
 
 -- slot c holds its suffixes and the first `done` of ss now; the next one, if there is one, finds no room
 pub record PutEach (c : ℕ) (ss l : List ℕ) (done : ℕ) (l' : List ℕ) : Type 0 where

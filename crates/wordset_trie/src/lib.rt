@@ -9,17 +9,10 @@ ghost use Rattle.region.specs.WellFormed.{Ready, WellFormed};
 ghost use Rattle.wordset_trie.specs.Settled.{Settled};
 ghost use Rattle.wordset_trie.specs.Answers.{PutAs, PutEach, TakenAs};
 
+use arena::NoRoom;
 use lens::read;
-use trie::{Inserted, Removed, insert, remove};
+use trie::{Removed, insert, remove};
 use trie_each::insert_each;
-
-// What a put did.
-#[derive(Clone, Copy)]
-pub enum Outcome {
-    New,
-    Old,
-    NoRoom,
-}
 
 // Stores the length of slot c, the nodes in use and the member count.
 fn settle(region: &mut [u64], c: usize, len: usize, used: usize, count: u64)
@@ -33,8 +26,8 @@ fn settle(region: &mut [u64], c: usize, len: usize, used: usize, count: u64)
     region[7] = count;
 }
 
-// Puts s into the trie in slot c. Refused exactly when the nodes that its members would need pass what is there.
-pub fn put(region: &mut [u64], c: usize, s: u64) -> Outcome
+// Puts s into the trie in slot c: whether it is new. Refused exactly when the nodes that its members would need pass what is there.
+pub fn put(region: &mut [u64], c: usize, s: u64) -> Result<bool, NoRoom>
     requires well_formed { WellFormed region.old }
     requires c_bound { c < (numbers region.old).C }
     requires c_value { (seen (numbers region.old) region.old).kind c ≡ 2 }
@@ -43,20 +36,18 @@ pub fn put(region: &mut [u64], c: usize, s: u64) -> Outcome
 {
     let root = read::link(region, c);
     let len = read::size(region, c);
-    let slots = region[4] as usize;
+    let shape = read::shape(region);
     let used = region[6] as usize;
-    let b = (region[2] as usize + 7) / 8;
     let grown = len + 1;
     let more = region[7] + 1;
     let start = region[13] as usize;
     let end = region[15] as usize;
-    match insert(&mut region[start..end], slots, used, b, root, s) {
-        Inserted::New(left) => {
+    match insert(&mut region[start..end], shape, used, root, s)? {
+        Some(left) => {
             settle(region, c, grown, left, more);
-            Outcome::New
+            Ok(true)
         }
-        Inserted::Old => Outcome::Old,
-        Inserted::NoRoom => Outcome::NoRoom,
+        None => Ok(false),
     }
 }
 
@@ -71,14 +62,13 @@ pub fn take(region: &mut [u64], c: usize, s: u64) -> bool
 {
     let root = read::link(region, c);
     let len = read::size(region, c);
-    let slots = region[4] as usize;
+    let shape = read::shape(region);
     let used = region[6] as usize;
-    let b = (region[2] as usize + 7) / 8;
     let left = len - 1;
     let fewer = region[7] - 1;
     let start = region[13] as usize;
     let end = region[15] as usize;
-    match remove(&mut region[start..end], slots, used, b, root, s) {
+    match remove(&mut region[start..end], shape, used, root, s) {
         Removed::Gone(rest) => {
             settle(region, c, left, rest, fewer);
             true
@@ -99,12 +89,11 @@ pub fn put_each(region: &mut [u64], c: usize, suffixes: &[u64]) -> usize
     let root = read::link(region, c);
     let len = read::size(region, c);
     let count = region[7];
-    let slots = region[4] as usize;
+    let shape = read::shape(region);
     let used = region[6] as usize;
-    let b = (region[2] as usize + 7) / 8;
     let start = region[13] as usize;
     let end = region[15] as usize;
-    let many = insert_each(&mut region[start..end], slots, used, b, root, suffixes);
+    let many = insert_each(&mut region[start..end], shape, used, root, suffixes);
     settle(
         region,
         c,

@@ -2,8 +2,9 @@
 use Prim.Native.Nat.{ℕ, zero, suc, ◌+◌, ◌*◌, ◌^◌, ◌<◌, ◌≤◌}
 use mathlib.Core.Path.{◌≡◌, refl, sym, ap, ◌∙◌, subst}
 use mathlib.Core.Bool.{true}
-use mathlib.Core.List.{List, [], ◌∷◌, ◌++◌, map}
+use mathlib.Core.List.{List, [], ◌∷◌, ◌++◌, map, append-nil}
 use native.Mathlib.Omega.{arith}
+use native.Mathlib.Nat.{add_comm}
 use lib.ListN.{length, take, drop, set, get_or, length-append, length-take, length-drop, length-map, drop_of_length-le}
 use lib.Seq.{take_all, take-suc, drop-cons, set_at, get_or_at, length-take-le, append_snoc, take_at, drop_at, get_or-take, get_or-drop}
 use lib.Pow.{pow_pos}
@@ -141,10 +142,14 @@ module _ (l : List ℕ) (wf : WellFormed l) (c : ℕ) (h : c < (numbers l).C) (k
       same_number : n ≡ length (window skip (length o) words)
       same_number = sym front_long ∙ sym (length-map (take n out₀) (λ (s : ℕ). base + s)) ∙ ap length words_are
 
-      pub all-joined : (i : ℕ) (out : List ℕ) → out ≡ partly (λ (s : ℕ). base + s) i (take n out₀) (drop n out₀) → n ≤ i → (n ≡ length (window skip (length o) words)) × (out ≡ written_over (window skip (length o) words) o)
-      all-joined i out e m = (
-        same_number,
-        partly-end (λ (s : ℕ). base + s) i (take n out₀) (drop n out₀) out e (omega (arith, front_long))
-            ∙ ap (λ (z : List ℕ). z ++ drop n out₀) words_are
-            ∙ ap (λ (z : List ℕ). window skip (length o) words ++ z) (rest-is ∙ ap (λ (z : ℕ). drop z o) (sym en ∙ same_number)),
-      )
+      pub all-joined : (i : ℕ) (out : List ℕ) → out ≡ partly (λ (s : ℕ). s + base) i (take n out₀) [] → n ≤ i → (n ≡ length (window skip (length o) words)) × (out ++ drop n out₀ ≡ written_over (window skip (length o) words) o)
+      all-joined i out e m =
+          let done : out ≡ window skip (length o) words =
+          partly-end (λ (s : ℕ). s + base) i (take n out₀) [] out e (omega (arith, front_long))
+          ∙ append-nil (map (λ (s : ℕ). s + base) (take n out₀))
+          ∙ (λ i. map (λ (s : ℕ). add_comm s base i) (take n out₀))
+          ∙ words_are
+          in (
+            same_number,
+            ap (λ (z : List ℕ). z ++ drop n out₀) done ∙ ap (λ (z : List ℕ). window skip (length o) words ++ z) (rest-is ∙ ap (λ (z : ℕ). drop z o) (sym en ∙ same_number)),
+          )

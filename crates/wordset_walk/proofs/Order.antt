@@ -10,7 +10,7 @@ use native.Mathlib.Decide.{ℕ_discrete}
 use lib.Dec.{leb}
 use lib.ListN.{length, take, drop, get_or, length-append, length-take, length-drop, length-map, get_or-map, set, take-append-drop, drop_of_length-le}
 use lib.Pow.{pow-add, pow_mono, shl_exact}
-use lib.Seq.{take_all, take-suc, drop-drop}
+use lib.Seq.{take_all, take-suc, drop-drop, get_or-take, get_or-drop}
 use borrow.Author.Tests.{ne_eqb, leb-true}
 use borrow.Rule.Slice.PartMut.{put_mid}
 use Rattle.lists.specs.Lists.{mem, each, up_to}
@@ -30,6 +30,10 @@ use Rattle.trie_walk.specs.Pour.{window}
 use Rattle.wordset_lookup.proofs.Looks.{S-high, vector-part}
 use Rattle.wordset_walk.proofs.Filling.{Filled, added, at_most, long, over, full, more, put, begin}
 use Rattle.wordset_walk.proofs.Joining.{each-small}
+
+-- an entry of a list from k on
+pub item-is : (xs : List ℕ) (k i : ℕ) → k + i < length xs → get_or (take (length xs - k) (drop k xs)) i 0 ≡ get_or xs (k + i) 0
+item-is xs k i h = let t : i < length xs - k = omega arith in get_or-take (length xs - k) (drop k xs) i 0 t ∙ get_or-drop k xs i 0
 
 -- The list of words
 

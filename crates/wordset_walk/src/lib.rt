@@ -7,9 +7,8 @@ ghost use Rattle.region.specs.WellFormed.{WellFormed};
 ghost use Rattle.promises.specs.Answers.{walked};
 ghost use Rattle.promises.specs.Walk.{walk_from, written_over, WalkPromise};
 
-use inspect::well_formed;
 use lens::read;
-use promises::Walked;
+use promises::WalkRefusal;
 
 mod tries;
 pub mod walker;
@@ -24,14 +23,12 @@ pub fn words_from(region: &[u64], start: usize, out: &mut [u64]) -> usize
     let bits = read::s(region);
     let mut skip = start;
     let mut at = 0;
-    let mut r = 0;
-    'prefixes: while r < k {
+    'prefixes: for r in 0..k {
         let c = read::slot(region, r);
         let len = read::size(region, c);
         // A container that lies before the start is passed over whole.
         if skip >= len {
             skip -= len;
-            r += 1;
             continue;
         }
         let base = (read::prefix(region, c) as u64) << bits;
@@ -41,35 +38,26 @@ pub fn words_from(region: &[u64], start: usize, out: &mut [u64]) -> usize
             }
             at += tries::words(region, c, base, skip, &mut out[at..]);
             skip = 0;
-            r += 1;
             continue;
         }
         let first = region[12] as usize + 1024 * c;
         let strip = &region[first..first + len];
-        let mut i = skip;
-        while i < len {
+        for suffix in &strip[skip..] {
             if at >= out.len() {
                 break 'prefixes;
             }
-            out[at] = base + strip[i];
+            out[at] = base + suffix;
             at += 1;
-            i += 1;
         }
         skip = 0;
-        r += 1;
     }
     at
 }
 
 // Walk from a place into an output of any length.
-pub fn walk(region: &[u64], start: u64, out: &mut [u64]) -> Walked
+pub fn walk(region: &[u64], start: u64, out: &mut [u64]) -> Result<usize, WalkRefusal>
     ensures { WalkPromise region.now start out.old (walked result) out.new }
 {
-    if !well_formed(region) {
-        return Walked::Malformed;
-    }
-    if start > read::count(region) {
-        return Walked::StartTooFar;
-    }
-    Walked::Wrote(words_from(region, start as usize, out))
+    let place = walker::open(region, start)?;
+    Ok(words_from(region, place, out))
 }

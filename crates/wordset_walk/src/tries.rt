@@ -18,12 +18,11 @@ fn suffixes_from(region: &[u64], c: usize, skip: usize, out: &mut [u64]) -> usiz
     ensures number { result ≡ length (window skip (length out.old) (suffixes (numbers region.now) (seen (numbers region.now) region.now) c)) }
     ensures written { out.new ≡ written_over (window skip (length out.old) (suffixes (numbers region.now) (seen (numbers region.now) region.now) c)) out.old }
 {
-    let slots = read::n(region);
-    let bits = read::s(region);
+    let shape = read::shape(region);
     let root = read::link(region, c);
     let start = region[13] as usize;
     let end = region[15] as usize;
-    trie_walk::walk(&region[start..end], slots, (bits + 7) / 8, root, skip, out)
+    trie_walk::walk(&region[start..end], shape, root, skip, out)
 }
 
 // Writes the words of the trie in slot c, whose prefix joined to suffix 0 is `base`, from the one with number `skip` on, as far as the output reaches.
@@ -37,10 +36,8 @@ pub fn words(region: &[u64], c: usize, base: u64, skip: usize, out: &mut [u64]) 
     ensures written { out.new ≡ written_over (window skip (length out.old) (container_words (numbers region.now).S (container (numbers region.now) (seen (numbers region.now) region.now) c))) out.old }
 {
     let n = suffixes_from(region, c, skip, out);
-    let mut i = 0;
-    while i < n {
-        out[i] = base + out[i];
-        i += 1;
+    for word in out[..n].iter_mut() {
+        *word += base;
     }
     n
 }

@@ -2,14 +2,12 @@
 ghost use Rattle.std.specs.Prelude.{◌≡◌, ◌+◌, length};
 ghost use Rattle.region.specs.Read.{reading};
 ghost use Rattle.region.specs.WellFormed.{WellFormed};
-ghost use Rattle.promises.specs.Answers.{stepped};
+ghost use Rattle.promises.specs.Answers.{stepped, walked};
 ghost use Rattle.promises.specs.Walk.{walk_from, OpenPromise, StepPromise};
-ghost use Rattle.wordset_walk.specs.Opened.{opened};
 
 use crate::words_from;
-use inspect::well_formed;
 use lens::read;
-use promises::Stepped;
+use promises::WalkRefusal;
 
 // The region, and the number of the word that is handed out next.
 #[derive(Clone, Copy)]
@@ -18,37 +16,27 @@ pub struct Walker<'a> {
     pub place: usize,
 }
 
-// Set a walker on a region: the place where it stands.
-#[derive(Clone, Copy)]
-pub enum Opened {
-    At(usize),
-    Malformed,
-    StartTooFar,
-}
-
-// Whether a walker may stand on the region at `start`. An answer holds no reference, so the caller makes the walker of the region and the place.
-pub fn open(region: &[u64], start: u64) -> Opened
-    ensures { OpenPromise region.now start (opened result) }
+// Whether a walker may stand on the region at `start`: the place where it stands. An answer holds no reference, so the caller makes the walker of the region and the place.
+pub fn open(region: &[u64], start: u64) -> Result<usize, WalkRefusal>
+    ensures { OpenPromise region.now start (walked result) }
 {
-    if !well_formed(region) {
-        return Opened::Malformed;
-    }
+    inspect::check(region)?;
     if start > read::count(region) {
-        return Opened::StartTooFar;
+        return Err(WalkRefusal::StartTooFar);
     }
-    Opened::At(start as usize)
+    Ok(start as usize)
 }
 
 // The word at a place, if there is one.
-pub fn next(region: &[u64], place: usize) -> Stepped
+pub fn next(region: &[u64], place: usize) -> Option<u64>
     requires { WellFormed region.now }
     ensures { stepped result ≡ walk_from (reading region.now) place 1 }
 {
     let mut word = [0u64; 1];
     if words_from(region, place, &mut word) == 0 {
-        return Stepped::End;
+        return None;
     }
-    Stepped::Word(word[0])
+    Some(word[0])
 }
 
 // The place behind that word.
@@ -64,7 +52,7 @@ pub fn after(region: &[u64], place: usize) -> usize
 
 impl<'a> Walker<'a> {
     // One step: the walker is taken apart, and the functions on the region and the place are called.
-    pub fn step(&mut self) -> Stepped
+    pub fn step(&mut self) -> Option<u64>
         requires { WellFormed self.old.region.now }
         ensures { (self.new.region ≡ self.old.region) × StepPromise (reading self.old.region.now) self.old.place (stepped result) self.new.place }
     {

@@ -2,380 +2,318 @@
 #![tactic(auto)]
 
 use promises::{
-    Card, Fields, Folder, Frame, Kind, Listed, Made, Packed, Rollover, Unpacked, Walked,
+    Card, Fields, Folder, Frame, Kind, ListRefusal, MakeRefusal, Rollover, UnpackRefusal,
+    WalkRefusal,
 };
-use std::io;
+use std::alloc::{AllocError, Global};
+use std::{fmt, io};
+
+// As long as the region of the ticket asks: 4,200 + 265·24.
+const WORDS: usize = 10560;
 
 // What every answer holds before a list, so that one that is not written shows.
 const OLD: u8 = 9;
 
-fn say(rt: &impl Print, text: &[u8]) -> io::Result<()> {
-    rt.write_all(text)
+const RAW: Kind = Kind(0);
+
+const SIDECAR: Kind = Kind(1);
+
+// What a command of a list does, by its code.
+#[derive(Clone, Copy)]
+enum Action {
+    Lookup = 0,
+    Insert = 1,
+    Remove = 2,
 }
 
-fn say_number(rt: &impl Print, x: u64) -> io::Result<()> {
-    rt.print(x)
-}
+// What a list told, with the number of its refusal.
+#[derive(Clone, Copy)]
+struct Told(Result<(), ListRefusal>);
 
-// The words first, first + step, first + 2·step and so on, modulo 2^64.
-fn fill(words: &mut [u64], first: u64, step: u64) {
-    let mut w = first;
-    let mut i = 0;
-    while i < words.len() {
-        words[i] = w;
-        w = std::num::wrapping_add_u64(w, step);
-        i += 1;
-    }
-}
-
-// How many answers are x.
-fn times(answers: &[u8], x: u8) -> u64 {
-    let mut count: u64 = 0;
-    let mut i = 0;
-    while i < answers.len() {
-        if answers[i] == x {
-            count += 1;
+impl fmt::Display for Told {
+    fn fmt<W: fmt::Write>(&self, f: &mut fmt::Formatter<W>) -> fmt::Result {
+        match self.0 {
+            Ok(()) => write!(f, "done"),
+            Err(ListRefusal::Malformed) => write!(f, "1, region not well formed"),
+            Err(ListRefusal::BadLengths) => write!(f, "4, lengths"),
+            Err(ListRefusal::UnknownCode(_)) => write!(f, "5, unknown code"),
+            Err(ListRefusal::WordTooLarge(_)) => write!(f, "6, word too large"),
+            Err(ListRefusal::NoRoom(i)) => write!(f, "9, no room, at command {i}"),
         }
-        i += 1;
     }
-    count
 }
 
-// How many words stand under the prefix, at S=28.
-fn under(words: &[u64], prefix: u64) -> u64 {
-    let mut count: u64 = 0;
-    let mut i = 0;
-    while i < words.len() {
-        if words[i] >> 28 == prefix {
-            count += 1;
+// A word of the set, shown by its card, its folder and its frame.
+#[derive(Clone, Copy)]
+struct Key(u64);
+
+impl fmt::Display for Key {
+    fn fmt<W: fmt::Write>(&self, f: &mut fmt::Formatter<W>) -> fmt::Result {
+        match keys::unpack(self.0) {
+            Ok(
+                Fields {
+                    card: Card(card),
+                    folder: Folder(folder),
+                    frame: Frame(frame),
+                    ..
+                },
+            ) => write!(f, "card {card}, folder {folder}, frame {frame}"),
+            Err(UnpackRefusal::WordTooLarge) => write!(f, "6, word too large"),
+            Err(UnpackRefusal::FieldOutOfRange(_)) => write!(f, "10, field out of range"),
         }
-        i += 1;
     }
-    count
 }
 
-// Whether each word is above the one before.
-fn ascending(words: &[u64]) -> bool {
-    let mut i = 1;
-    while i < words.len() {
-        if words[i - 1] >= words[i] {
-            return false;
-        }
-        i += 1;
+// What is said of a walk that is refused.
+fn why(refusal: WalkRefusal) -> &'static str {
+    match refusal {
+        WalkRefusal::Malformed => "1, region not well formed",
+        WalkRefusal::StartTooFar => "8, start too far",
     }
-    true
 }
 
-// Words 5 to 7 of the header.
-fn say_counts(rt: &impl Print, region: &[u64]) -> io::Result<()> {
-    if region.len() < 16 {
+// So many words from `first` on, each `step` after the one before, modulo 2^64.
+fn in_a_row(alloc: Global, first: u64, step: u64, many: u64) -> Result<Vec<u64>, AllocError> {
+    (0..many)
+        .map(|i| first.wrapping_add(step.wrapping_mul(i)))
+        .collect(alloc)
+}
+
+// A line: what a list of one action on all the words tells, its answers, and what words 5 to 7 of the header count then.
+fn list(
+    rt: &impl Print,
+    alloc: Global,
+    name: &str,
+    region: &mut [u64],
+    action: Action,
+    words: &[u64],
+) -> io::Result<()> {
+    let codes = vec![in alloc; action as u8; words.len()]?;
+    let mut answers = vec![in alloc; OLD; words.len()]?;
+    let told = Told(wordset_list::list(region, &codes, words, &mut answers));
+    let ones = answers.iter().filter(|answer| **answer == 1).count();
+    let zeros = answers.iter().filter(|answer| **answer == 0).count();
+    print!(rt; "{name}: {told}; answers 1: {ones}, answers 0: {zeros}")?;
+    let [_, _, _, _, _, containers, nodes, members, ..] = region else {
         return Ok(());
-    }
-    say(rt, b"; containers ")?;
-    say_number(rt, region[5])?;
-    say(rt, b", nodes ")?;
-    say_number(rt, region[6])?;
-    say(rt, b", members ")?;
-    say_number(rt, region[7])?;
-    say(rt, b"\n")
+    };
+    println!(rt; "; containers {containers}, nodes {nodes}, members {members}")
 }
 
-fn say_told(rt: &impl Print, told: Listed) -> io::Result<()> {
-    match told {
-        Listed::Done => say(rt, b"done"),
-        Listed::Malformed => say(rt, b"1, region not well formed"),
-        Listed::BadLengths => say(rt, b"4, lengths"),
-        Listed::UnknownCode(_) => say(rt, b"5, unknown code"),
-        Listed::WordTooLarge(_) => say(rt, b"6, word too large"),
-        Listed::NoRoom(i) => {
-            say(rt, b"9, no room, at command ")?;
-            say_number(rt, i as u64)
-        }
-    }
-}
-
-// Runs a list: what is told, the answers, and what the header counts then.
-fn run(
-    rt: &impl Print,
-    name: &[u8],
-    region: &mut [u64],
-    codes: &[u8],
-    words: &[u64],
-    answers: &mut [u8],
-) -> io::Result<()> {
-    let told = wordset_list::list(region, codes, words, answers);
-    say(rt, name)?;
-    say_told(rt, told)?;
-    say(rt, b"; answers 1: ")?;
-    say_number(rt, times(answers, 1))?;
-    say(rt, b", answers 0: ")?;
-    say_number(rt, times(answers, 0))?;
-    say_counts(rt, region)
-}
-
-// A list with one code for all its words.
-fn each(
-    rt: &impl Print,
-    name: &[u8],
-    region: &mut [u64],
-    code: u8,
-    words: &[u64],
-) -> io::Result<()> {
-    let codes = [code; 2000];
-    let mut answers = [OLD; 2000];
-    let n = words.len();
-    if n <= 2000 {
-        return run(rt, name, region, &codes[0..n], words, &mut answers[0..n]);
-    }
-    Ok(())
-}
-
-// The same on as many words in a row as there are places for.
-fn in_row(
-    rt: &impl Print,
-    name: &[u8],
-    region: &mut [u64],
-    code: u8,
-    first: u64,
-    step: u64,
-    words: &mut [u64],
-) -> io::Result<()> {
-    fill(words, first, step);
-    each(rt, name, region, code, words)
-}
-
-fn row(
-    rt: &impl Print,
-    name: &[u8],
-    region: &mut [u64],
-    code: u8,
-    first: u64,
-    step: u64,
-    many: usize,
-) -> io::Result<()> {
-    let mut words = [0u64; 1025];
-    if many <= 1025 {
-        return in_row(rt, name, region, code, first, step, &mut words[0..many]);
-    }
-    Ok(())
-}
-
-fn fresh(rt: &impl Print, name: &[u8], region: &mut [u64], s: u64, n: u64) -> io::Result<()> {
-    say(rt, b"\n")?;
-    say(rt, name)?;
-    match make::make(region, 12, s, 4, n) {
-        Made::Done => say(rt, b": made\n"),
-        Made::OutOfRange => say(rt, b": 2, out of range\n"),
-        Made::TooShort => say(rt, b": 3, too short\n"),
-    }
-}
-
-fn say_words(rt: &impl Print, words: &[u64]) -> io::Result<()> {
-    say_number(rt, words.len() as u64)?;
-    say(rt, b" words")?;
-    if words.len() == 0 {
-        return say(rt, b"\n");
-    }
-    say(rt, b", ")?;
-    say_number(rt, words[0])?;
-    say(rt, b" to ")?;
-    say_number(rt, words[words.len() - 1])?;
-    if ascending(words) {
-        return say(rt, b", ascending\n");
-    }
-    say(rt, b", not ascending\n")
+fn fresh(rt: &impl Print, name: &str, region: &mut [u64], s: u64, n: u64) -> io::Result<()> {
+    let answer = match make::make(region, 12, s, 4, n) {
+        Ok(()) => "made",
+        Err(MakeRefusal::OutOfRange) => "2, out of range",
+        Err(MakeRefusal::TooShort) => "3, too short",
+    };
+    println!(rt; "\n{name}: {answer}")
 }
 
 // A line of the walk: how many words, the first and the last, and whether they ascend.
-fn walk(rt: &impl Print, region: &[u64]) -> io::Result<()> {
-    let mut out = [0u64; 1100];
-    say(rt, b"  walk: ")?;
-    match wordset_walk::walk(region, 0, &mut out) {
-        Walked::Wrote(n) => {
-            if n <= 1100 {
-                return say_words(rt, &out[0..n]);
-            }
-            Ok(())
+fn walk(rt: &impl Print, alloc: Global, region: &[u64]) -> io::Result<()> {
+    let mut words = vec![in alloc; 0u64; 1100]?;
+    match wordset_walk::walk(region, 0, &mut words) {
+        Ok(many) => words.truncate(many),
+        Err(refusal) => return println!(rt; "  walk: {}", why(refusal)),
+    }
+    let many = words.len();
+    let ascending = if words.is_sorted_by(|a, b| a < b) {
+        "ascending"
+    } else {
+        "not ascending"
+    };
+    match (words.first(), words.last()) {
+        (Some(first), Some(last)) => {
+            println!(rt; "  walk: {many} words, {first} to {last}, {ascending}")
         }
-        Walked::Malformed => say(rt, b"1, region not well formed\n"),
-        Walked::StartTooFar => say(rt, b"8, start too far\n"),
+        _ => println!(rt; "  walk: {many} words"),
     }
 }
 
 // K6, K7 and K9. The inserts go down, so that the order of K9 is not the order of the inserts.
-fn thresholds(rt: &impl Print, region: &mut [u64]) -> io::Result<()> {
-    fresh(rt, b"P=12, S=28, C=4, N=8", region, 28, 8)?;
-    row(
+fn thresholds(rt: &impl Print, alloc: Global, region: &mut [u64]) -> io::Result<()> {
+    fresh(rt, "P=12, S=28, C=4, N=8", region, 28, 8)?;
+    let down = in_a_row(alloc, 1023, u64::MAX, 1024)?;
+    list(
         rt,
-        b"K6 insert 1,023 down to 0: ",
+        alloc,
+        "K6 insert 1,023 down to 0",
         region,
-        1,
-        1023,
-        u64::MAX,
-        1024,
+        Action::Insert,
+        &down,
     )?;
-    walk(rt, region)?;
-    row(rt, b"K7 insert 1,024: ", region, 1, 1024, 1, 1)?;
-    walk(rt, region)?;
-    row(rt, b"K9 remove 1,024: ", region, 2, 1024, 1, 1)?;
-    walk(rt, region)
+    walk(rt, alloc, region)?;
+    list(
+        rt,
+        alloc,
+        "K7 insert 1,024",
+        region,
+        Action::Insert,
+        &[1024],
+    )?;
+    walk(rt, alloc, region)?;
+    list(
+        rt,
+        alloc,
+        "K9 remove 1,024",
+        region,
+        Action::Remove,
+        &[1024],
+    )?;
+    walk(rt, alloc, region)
 }
 
 // K7 where a node is missing, and K8.
-fn node_slots(rt: &impl Print, region: &mut [u64]) -> io::Result<()> {
-    fresh(rt, b"P=12, S=28, C=4, N=8", region, 28, 8)?;
-    row(rt, b"K7 insert 0 to 1,024: ", region, 1, 0, 1, 1025)?;
-    fresh(rt, b"P=12, S=28, C=4, N=7", region, 28, 7)?;
-    row(rt, b"K7 insert 0 to 1,024: ", region, 1, 0, 1, 1025)?;
-    walk(rt, region)?;
-    fresh(rt, b"P=12, S=16, C=4, N=6", region, 16, 6)?;
-    row(rt, b"K8 insert 0 to 1,024: ", region, 1, 0, 1, 1025)
+fn node_slots(rt: &impl Print, alloc: Global, region: &mut [u64]) -> io::Result<()> {
+    let words = in_a_row(alloc, 0, 1, 1025)?;
+    fresh(rt, "P=12, S=28, C=4, N=8", region, 28, 8)?;
+    list(
+        rt,
+        alloc,
+        "K7 insert 0 to 1,024",
+        region,
+        Action::Insert,
+        &words,
+    )?;
+    fresh(rt, "P=12, S=28, C=4, N=7", region, 28, 7)?;
+    list(
+        rt,
+        alloc,
+        "K7 insert 0 to 1,024",
+        region,
+        Action::Insert,
+        &words,
+    )?;
+    walk(rt, alloc, region)?;
+    fresh(rt, "P=12, S=16, C=4, N=6", region, 16, 6)?;
+    list(
+        rt,
+        alloc,
+        "K8 insert 0 to 1,024",
+        region,
+        Action::Insert,
+        &words,
+    )
 }
 
-fn absent(rt: &impl Print, region: &mut [u64]) -> io::Result<()> {
-    fresh(rt, b"P=12, S=28, C=4, N=12", region, 28, 12)?;
-    row(rt, b"K11 insert even 0 to 2,048: ", region, 1, 0, 2, 1025)?;
-    row(rt, b"K11 remove odd 1 to 2,049: ", region, 2, 1, 2, 1025)?;
-    walk(rt, region)?;
-    row(
+fn absent(rt: &impl Print, alloc: Global, region: &mut [u64]) -> io::Result<()> {
+    let even = in_a_row(alloc, 0, 2, 1025)?;
+    let odd = in_a_row(alloc, 1, 2, 1025)?;
+    let other = [(1 << 28) + 7];
+    fresh(rt, "P=12, S=28, C=4, N=12", region, 28, 12)?;
+    list(
         rt,
-        b"K11 insert suffix 7 under prefix 1: ",
+        alloc,
+        "K11 insert even 0 to 2,048",
         region,
-        1,
-        (1 << 28) + 7,
-        1,
-        1,
+        Action::Insert,
+        &even,
     )?;
-    walk(rt, region)
+    list(
+        rt,
+        alloc,
+        "K11 remove odd 1 to 2,049",
+        region,
+        Action::Remove,
+        &odd,
+    )?;
+    walk(rt, alloc, region)?;
+    list(
+        rt,
+        alloc,
+        "K11 insert suffix 7 under prefix 1",
+        region,
+        Action::Insert,
+        &other,
+    )?;
+    walk(rt, alloc, region)
 }
 
 // The key of a frame, or a word that every list refuses.
-fn key(card: u64, folder: u64, frame: u64, kind: u64) -> u64 {
-    let f = Fields {
+fn key_of(card: u64, folder: u64, frame: u64, kind: Kind) -> u64 {
+    let fields = Fields {
         card: Card(card),
         rollover: Rollover(0),
         folder: Folder(folder),
         frame: Frame(frame),
-        kind: Kind(kind),
+        kind,
     };
-    match keys::pack(f) {
-        Packed::Key(word) => word,
-        Packed::FieldOutOfRange(_) => u64::MAX,
-    }
+    keys::pack(fields).unwrap_or(u64::MAX)
 }
 
-// The keys of frames 1, 2 and so on of folder 100.
-fn fill_keys(words: &mut [u64], card: u64, kind: u64) {
-    let mut i = 0;
-    while i < words.len() {
-        words[i] = key(card, 100, i as u64 + 1, kind);
-        i += 1;
-    }
+// The keys of frames 100-0001 to 100-2000 of a card.
+fn frames(alloc: Global, card: u64, kind: Kind) -> Result<Vec<u64>, AllocError> {
+    (1..=2000u64)
+        .map(|frame| key_of(card, 100, frame, kind))
+        .collect(alloc)
 }
 
-// A list on frames 100-0001 to 100-2000 of a card.
-fn frames(
-    rt: &impl Print,
-    name: &[u8],
-    region: &mut [u64],
-    code: u8,
-    card: u64,
-    kind: u64,
-) -> io::Result<()> {
-    let mut words = [0u64; 2000];
-    fill_keys(&mut words, card, kind);
-    each(rt, name, region, code, &words)
-}
-
-fn say_frame(rt: &impl Print, word: u64) -> io::Result<()> {
-    match keys::unpack(word) {
-        Unpacked::Fields(f) => {
-            say(rt, b"card ")?;
-            say_number(rt, f.card.0)?;
-            say(rt, b", folder ")?;
-            say_number(rt, f.folder.0)?;
-            say(rt, b", frame ")?;
-            say_number(rt, f.frame.0)
-        }
-        Unpacked::WordTooLarge => say(rt, b"6, word too large"),
-        Unpacked::FieldOutOfRange(_) => say(rt, b"10, field out of range"),
-    }
+// How many words stand on a card.
+fn on_card(words: &[u64], card: u64) -> usize {
+    words.iter().filter(|word| **word >> 28 == card).count()
 }
 
 // What each card shows: its words in the walk.
-fn say_cards(rt: &impl Print, words: &[u64]) -> io::Result<()> {
-    say(rt, b"  card 5 shows ")?;
-    say_number(rt, under(words, 5))?;
-    say(rt, b", card 6 shows ")?;
-    say_number(rt, under(words, 6))?;
-    if words.len() > 0 {
-        say(rt, b"; the last is ")?;
-        say_frame(rt, words[words.len() - 1])?;
+fn cards(rt: &impl Print, alloc: Global, region: &[u64]) -> io::Result<()> {
+    let mut words = vec![in alloc; 0u64; 2100]?;
+    match wordset_walk::walk(region, 0, &mut words) {
+        Ok(many) => words.truncate(many),
+        Err(refusal) => return println!(rt; "  {}", why(refusal)),
     }
-    say(rt, b"\n")
-}
-
-fn cards(rt: &impl Print, region: &[u64]) -> io::Result<()> {
-    let mut out = [0u64; 2100];
-    match wordset_walk::walk(region, 0, &mut out) {
-        Walked::Wrote(n) => {
-            if n <= 2100 {
-                return say_cards(rt, &out[0..n]);
-            }
-            Ok(())
-        }
-        Walked::Malformed => say(rt, b"  1, region not well formed\n"),
-        Walked::StartTooFar => say(rt, b"  8, start too far\n"),
+    print!(rt;
+        "  card 5 shows {}, card 6 shows {}",
+        on_card(&words, 5),
+        on_card(&words, 6)
+    )?;
+    if let Some(last) = words.last() {
+        print!(rt; "; the last is {}", Key(*last))?;
     }
+    println!(rt)
 }
 
 // docs/TICKET.md: raw keys are cached, then as many sidecars that never were are deleted.
-fn delete_batch(rt: &impl Print, region: &mut [u64]) -> io::Result<()> {
-    fresh(rt, b"The ticket, P=12, S=28, C=4, N=24", region, 28, 24)?;
-    frames(rt, b"cache 2,000 raw keys of card 5: ", region, 1, 5, 0)?;
-    frames(
+fn delete_batch(rt: &impl Print, alloc: Global, region: &mut [u64]) -> io::Result<()> {
+    let raws = frames(alloc, 5, RAW)?;
+    let sidecars = frames(alloc, 5, SIDECAR)?;
+    let deleted = "delete the 2,000 sidecars of card 5, none cached";
+    let looked = "look up the 2,000 raw keys of card 5";
+    fresh(rt, "The ticket, P=12, S=28, C=4, N=24", region, 28, 24)?;
+    list(
         rt,
-        b"delete the 2,000 sidecars of card 5, none cached: ",
+        alloc,
+        "cache 2,000 raw keys of card 5",
         region,
-        2,
-        5,
-        1,
+        Action::Insert,
+        &raws,
     )?;
-    frames(
-        rt,
-        b"look up the 2,000 raw keys of card 5: ",
-        region,
-        0,
-        5,
-        0,
-    )
+    list(rt, alloc, deleted, region, Action::Remove, &sidecars)?;
+    list(rt, alloc, looked, region, Action::Lookup, &raws)
 }
 
 // Then the next card is opened.
-fn next_card(rt: &impl Print, region: &mut [u64]) -> io::Result<()> {
-    let first = [key(6, 101, 1, 0)];
-    each(rt, b"cache 101-0001 of card 6: ", region, 1, &first)?;
-    frames(
+fn next_card(rt: &impl Print, alloc: Global, region: &mut [u64]) -> io::Result<()> {
+    let first = [key_of(6, 101, 1, RAW)];
+    let raws = frames(alloc, 6, RAW)?;
+    let looked = "look up the same 2,000 raw keys of card 6";
+    list(
         rt,
-        b"look up the same 2,000 raw keys of card 6: ",
+        alloc,
+        "cache 101-0001 of card 6",
         region,
-        0,
-        6,
-        0,
+        Action::Insert,
+        &first,
     )?;
-    cards(rt, region)
+    list(rt, alloc, looked, region, Action::Lookup, &raws)?;
+    cards(rt, alloc, region)
 }
 
 fn main(rt: HostRuntime) -> io::Result<()> {
-    // as long as the region of the ticket asks: 4,200 + 265·24
-    let mut region = [0u64; 10560];
-    say(
-        &rt,
-        b"Each line: what the list tells, its answers, and the header's counts.\n",
-    )?;
-    thresholds(&rt, &mut region)?;
-    node_slots(&rt, &mut region)?;
-    absent(&rt, &mut region)?;
-    delete_batch(&rt, &mut region)?;
-    next_card(&rt, &mut region)
+    let alloc = rt.alloc();
+    let mut region = vec![in alloc; 0u64; WORDS]?;
+    println!(rt; "Each line: what the list tells, its answers, and the header's counts.")?;
+    thresholds(&rt, alloc, &mut region)?;
+    node_slots(&rt, alloc, &mut region)?;
+    absent(&rt, alloc, &mut region)?;
+    delete_batch(&rt, alloc, &mut region)?;
+    next_card(&rt, alloc, &mut region)
 }

@@ -6,7 +6,7 @@ use borrow.Author.Count.{below_more}
 use Rattle.arena_check.proofs.all_hang.Goals as goal
 
 pub loop-n-init : goal.loop-n-init
-loop-n-init c = (c.requires.from_le_end.0, c.requires.by_index_2)
+loop-n-init c = c.requires.by_index_2
 
 pub hangs-requires : goal.hangs-requires
 hangs-requires c =
@@ -23,19 +23,13 @@ returns-then-not-hangs c =
       no = λ _ all. c.hangs.ensures.no c.if-not-hangs.true (all c.loop-n.n (omega arith));
     }
 
-pub overflow_add-n : goal.overflow_add-n
-overflow_add-n c = omega arith
-
-pub loop-n-smaller : goal.loop-n-smaller
-loop-n-smaller c = omega arith
-
 pub loop-n-preserved : goal.loop-n-preserved
-loop-n-preserved c = (omega arith, below_more _ _ c.loop-n.invariant.1 (c.hangs.ensures.yes c.if-not-hangs.false))
+loop-n-preserved c = below_more _ _ c.loop-n.invariant (c.hangs.ensures.yes c.if-not-hangs.false)
 
 pub returns : goal.returns
 returns c =
     let l = c.loop-n in
     record {
-      yes = λ _ m h. l.invariant.1 m (omega arith);
+      yes = λ _ m h. l.invariant m (omega arith);
       no = λ e. absurd (false≢true (sym e));
     }

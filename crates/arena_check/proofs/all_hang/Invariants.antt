@@ -1,11 +1,8 @@
 -- Each node up to the end is looked at once. Assumes nothing.
-use Prim.Native.Nat.{ℕ, ◌-◌, ◌≤◌, ◌<◌}
+use Prim.Native.Nat.{ℕ, ◌<◌}
 use Rattle.arena.specs.Arena.{nodes_in}
 use Rattle.arena_check.specs.Checks.{Hangs}
 use Rattle.arena_check.proofs.all_hang.Given as goal
 
 abbrev pub invariant-loop-n : goal.invariant-loop-n
-invariant-loop-n l = (l.n ≤ l.end) × ((m : ℕ) → m < l.n → Hangs l.slots (nodes_in l.slots l.arena) m)
-
-abbrev pub decreases-loop-n : goal.decreases-loop-n
-decreases-loop-n l = l.end - l.n
+invariant-loop-n l = (m : ℕ) → m < l.n → Hangs l.slots (nodes_in l.slots l.arena) m

@@ -1,118 +1,72 @@
 -- The parent's words are read at the back link, which is in range. Assumes nothing.
 use mathlib.Core.Path.{◌≡◌, sym, ap, ap₂, ◌∙◌}
-use mathlib.Core.Bool.{Bool, true, false, false≢true}
+use mathlib.Core.Bool.{true, false≢true}
 use Prim.Native.Nat.{ℕ, suc, ◌-◌, ◌≤◌, ◌<◌}
 use native.Mathlib.Omega.{arith}
 use lib.Dec.{eqb}
-use borrow.Author.Tests.{eqb-true, eq-eqb}
-use Rattle.lists.proofs.Answers.{refused, granted}
+use borrow.Author.Tests.{eqb-true, eqb-false, eq-eqb}
 use Rattle.region.specs.Nodes.{Nodes}
 use Rattle.region.specs.Linked.{Above}
 use Rattle.arena.specs.Arena.{nodes_in}
-use Rattle.arena_check.specs.Checks.{BackInRange, Hangs}
+use Rattle.arena_check.specs.Checks.{Hangs}
 use Rattle.arena_check.proofs.hangs.Goals as goal
+use Rattle.arena_check.proofs.hangs.Goals.{then-level1, else-level1}
 
-module _ (N : ℕ) (v : Nodes) (n level : ℕ) (is-level : level ≡ v.level1 n) where
-  no-parent : level < 2 → Hangs N v n
-  no-parent h l e = absurd (omega arith)
-
-  back : 2 ≤ level → BackInRange N v n → (v.parent n < N) × (v.byte n < 256)
-  back h k = k (omega arith)
-
-  module _ (low : 2 ≤ level) (p : ℕ) (is : p ≡ v.parent n) (x : ℕ) (byte : x ≡ v.byte n) (e : ℕ) (above : e ≡ v.level1 p) where
-    named : Hangs N v n → Above v N (level - 2) n
-    named h = h (level - 2) (omega arith)
-
-    no-level : (e ≡ level - 1 → ⊥) → Hangs N v n → ⊥
-    no-level h k = let z : suc (level - 2) ≡ level - 1 = omega arith in h (above ∙ ap v.level1 is ∙ (named k).level ∙ z)
-
-    module _ (t : Bool) (bit : t ≡ eqb (v.bit p x) 1) where
-      is-clear : t ≡ false → Hangs N v n → ⊥
-      is-clear h k = false≢true (sym h ∙ bit ∙ eq-eqb (v.bit p x) 1 (ap₂ v.bit is byte ∙ (named k).is_set))
-
-      module _ (c : ℕ) (child : c ≡ v.child p x) where
-        another : (c ≡ n → ⊥) → Hangs N v n → ⊥
-        another h k = h (child ∙ ap₂ v.child is byte ∙ (named k).is-child)
-
-        itself : BackInRange N v n → e ≡ level - 1 → t ≡ true → c ≡ n → Hangs N v n
-        itself k el ts cn l q =
-            let z : level - 1 ≡ suc l = omega arith in
-            record {
-              in-range = (back low k).0;
-              level = ap v.level1 (sym is) ∙ sym above ∙ el ∙ z;
-              byte = (back low k).1;
-              is_set = ap₂ v.bit (sym is) (sym byte) ∙ eqb-true (v.bit p x) 1 (sym bit ∙ ts);
-              is-child = ap₂ v.child (sym is) (sym byte) ∙ sym child ∙ cn;
-            }
-
-pub returns-then-level1-lt2 : goal.returns-then-level1-lt2
-returns-then-level1-lt2 c =
-    let a = c.args in
+-- where the parent's words name the node, it hangs on it
+hangs-on : (N : ℕ) (v : Nodes) (n level p x : ℕ) → level ≡ v.level1 n → p ≡ v.parent n → x ≡ v.byte n → v.parent n < N → v.byte n < 256
+    → v.level1 p ≡ level - 1 → v.bit p x ≡ 1 → v.child p x ≡ n → Hangs N v n
+hangs-on N v n level p x is-level is byte range small above set named = λ l q.
+    let z : level - 1 ≡ suc l = omega arith in
     record {
-      yes = (granted (no-parent a.slots (nodes_in a.slots a.arena.now) a.n c.level1-level1.result c.level1-level1.ensures (omega (arith, c.if-level1-lt2.true)))).0;
-      no = (granted (no-parent a.slots (nodes_in a.slots a.arena.now) a.n c.level1-level1.result c.level1-level1.ensures (omega (arith, c.if-level1-lt2.true)))).1;
+      in-range = range;
+      level = ap v.level1 (sym is) ∙ above ∙ z;
+      byte = small;
+      is_set = ap₂ v.bit (sym is) (sym byte) ∙ set;
+      is-child = ap₂ v.child (sym is) (sym byte) ∙ named;
     }
 
-pub level1-above-requires : goal.level1-above-requires
-level1-above-requires c =
-    let a = c.args in
-    record {
-      arena_len = c.requires.arena_len;
-      n_lt_slots = omega (arith, c.parent-p.ensures, (back a.slots (nodes_in a.slots a.arena.now) a.n c.level1-level1.result c.level1-level1.ensures (omega (arith, c.if-level1-lt2.false)) c.requires.back_in_range).0);
-    }
+-- what the tests come to, where the parent p names the node by byte x
+module _ (N : ℕ) (v : Nodes) (n level p x : ℕ) (is-level : level ≡ v.level1 n) (low : 2 ≤ level) (is : p ≡ v.parent n) (byte : x ≡ v.byte n) (hung : Hangs N v n) where
+  named : Above v N (level - 2) n
+  named = hung (level - 2) (omega arith)
 
-pub returns-then-above-level1 : goal.returns-then-above-level1
-returns-then-above-level1 c =
-    let a = c.args in
-    record {
-      yes = (refused (no-level a.slots (nodes_in a.slots a.arena.now) a.n c.level1-level1.result c.level1-level1.ensures (omega (arith, c.if-level1-lt2.false)) c.parent-p.result c.parent-p.ensures c.byte-x.result c.byte-x.ensures c.level1-above.result c.level1-above.ensures c.if-above-level1.true)).0;
-      no = (refused (no-level a.slots (nodes_in a.slots a.arena.now) a.n c.level1-level1.result c.level1-level1.ensures (omega (arith, c.if-level1-lt2.false)) c.parent-p.result c.parent-p.ensures c.byte-x.result c.byte-x.ensures c.level1-above.result c.level1-above.ensures c.if-above-level1.true)).1;
-    }
+  level-is : v.level1 p ≡ level - 1
+  level-is = let z : suc (level - 2) ≡ level - 1 = omega arith in ap v.level1 is ∙ named.level ∙ z
 
-pub test-requires : goal.test-requires
-test-requires c =
-    let a = c.args in
-    let k = back a.slots (nodes_in a.slots a.arena.now) a.n c.level1-level1.result c.level1-level1.ensures (omega (arith, c.if-level1-lt2.false)) c.requires.back_in_range in
-    record {
-      arena_len = c.requires.arena_len;
-      n_lt_slots = omega (arith, c.parent-p.ensures, k.0);
-      x_bound = omega (arith, c.byte-x.ensures, k.1);
-    }
+  is_set : eqb (v.bit p x) 1 ≡ true
+  is_set = eq-eqb (v.bit p x) 1 (ap₂ v.bit is byte ∙ named.is_set)
 
-pub returns-then-not-test : goal.returns-then-not-test
-returns-then-not-test c =
-    let a = c.args in
-    record {
-      yes = (refused (is-clear a.slots (nodes_in a.slots a.arena.now) a.n c.level1-level1.result c.level1-level1.ensures (omega (arith, c.if-level1-lt2.false)) c.parent-p.result c.parent-p.ensures c.byte-x.result c.byte-x.ensures c.level1-above.result c.level1-above.ensures c.test.result c.test.ensures c.if-not-test.true)).0;
-      no = (refused (is-clear a.slots (nodes_in a.slots a.arena.now) a.n c.level1-level1.result c.level1-level1.ensures (omega (arith, c.if-level1-lt2.false)) c.parent-p.result c.parent-p.ensures c.byte-x.result c.byte-x.ensures c.level1-above.result c.level1-above.ensures c.test.result c.test.ensures c.if-not-test.true)).1;
-    }
+  is-child : v.child p x ≡ n
+  is-child = ap₂ v.child is byte ∙ named.is-child
 
-pub child-child-requires : goal.child-child-requires
-child-child-requires c =
+pub returns-then-test-clause-yes : goal.returns-then-test-clause-yes
+returns-then-test-clause-yes c =
     let a = c.args in
-    let k = back a.slots (nodes_in a.slots a.arena.now) a.n c.level1-level1.result c.level1-level1.ensures (omega (arith, c.if-level1-lt2.false)) c.requires.back_in_range in
-    record {
-      arena_len = c.requires.arena_len;
-      n_lt_slots = omega (arith, c.parent-p.ensures, k.0);
-      x_bound = omega (arith, c.byte-x.ensures, k.1);
-    }
+    let v = nodes_in a.slots a.arena.now in
+    let low : 2 ≤ v.level1 a.n = omega (arith, c.level1-level1.ensures, c.if-level1-lt2.false) in
+    let k = c.requires.back_in_range low in
+    λ e. elim c.if-level1.branch [
+      | then-level1 w ↦
+          hangs-on a.slots v a.n c.level1-level1.result c.parent-p.result c.byte-x.result c.level1-level1.ensures c.parent-p.ensures c.byte-x.ensures
+          k.0 k.1 (omega (arith, c.level1.ensures, w.if-level1.true))
+          (eqb-true _ _ (sym w.test.ensures ∙ sym w.value-is ∙ c.if-test.true)) (omega (arith, c.child.ensures, eqb-true _ _ e))
+      | else-level1 w ↦ absurd (w.if-level1.false (eqb-true _ _ (sym w.value-is ∙ c.if-test.true)))
+    ]
 
-pub returns-then-child-n : goal.returns-then-child-n
-returns-then-child-n c =
+pub returns-then-test-clause-no : goal.returns-then-test-clause-no
+returns-then-test-clause-no c =
     let a = c.args in
-    record {
-      yes = (refused (another a.slots (nodes_in a.slots a.arena.now) a.n c.level1-level1.result c.level1-level1.ensures (omega (arith, c.if-level1-lt2.false)) c.parent-p.result c.parent-p.ensures c.byte-x.result c.byte-x.ensures c.level1-above.result c.level1-above.ensures c.test.result c.test.ensures
-          c.child-child.result c.child-child.ensures (λ q. omega (arith, c.if-child-n.true)))).0;
-      no = (refused (another a.slots (nodes_in a.slots a.arena.now) a.n c.level1-level1.result c.level1-level1.ensures (omega (arith, c.if-level1-lt2.false)) c.parent-p.result c.parent-p.ensures c.byte-x.result c.byte-x.ensures c.level1-above.result c.level1-above.ensures c.test.result c.test.ensures
-          c.child-child.result c.child-child.ensures (λ q. omega (arith, c.if-child-n.true)))).1;
-    }
+    λ e k. eqb-false c.child.result a.n e
+    (c.child.ensures ∙ is-child a.slots (nodes_in a.slots a.arena.now) a.n c.level1-level1.result c.parent-p.result c.byte-x.result c.level1-level1.ensures (omega arith) c.parent-p.ensures c.byte-x.ensures k)
 
-pub returns : goal.returns
-returns c =
+pub returns-else-test-clause-no : goal.returns-else-test-clause-no
+returns-else-test-clause-no c =
     let a = c.args in
-    record {
-      yes = (granted (itself a.slots (nodes_in a.slots a.arena.now) a.n c.level1-level1.result c.level1-level1.ensures (omega (arith, c.if-level1-lt2.false)) c.parent-p.result c.parent-p.ensures c.byte-x.result c.byte-x.ensures c.level1-above.result c.level1-above.ensures c.test.result c.test.ensures
-          c.child-child.result c.child-child.ensures c.requires.back_in_range c.if-above-level1.false c.if-not-test.false (omega (arith, c.if-child-n.false)))).0;
-      no = (granted (itself a.slots (nodes_in a.slots a.arena.now) a.n c.level1-level1.result c.level1-level1.ensures (omega (arith, c.if-level1-lt2.false)) c.parent-p.result c.parent-p.ensures c.byte-x.result c.byte-x.ensures c.level1-above.result c.level1-above.ensures c.test.result c.test.ensures
-          c.child-child.result c.child-child.ensures c.requires.back_in_range c.if-above-level1.false c.if-not-test.false (omega (arith, c.if-child-n.false)))).1;
-    }
+    elim c.if-level1.branch [
+      | then-level1 w ↦
+          λ e k. false≢true (sym e ∙ w.value-is ∙ w.test.ensures
+          ∙ is_set a.slots (nodes_in a.slots a.arena.now) a.n c.level1-level1.result c.parent-p.result c.byte-x.result c.level1-level1.ensures (omega arith) c.parent-p.ensures c.byte-x.ensures k)
+      | else-level1 w ↦
+          λ e k. w.if-level1.false (c.level1.ensures
+          ∙ level-is a.slots (nodes_in a.slots a.arena.now) a.n c.level1-level1.result c.parent-p.result c.byte-x.result c.level1-level1.ensures (omega arith) c.parent-p.ensures c.byte-x.ensures k)
+    ]

@@ -1,7 +1,6 @@
 -- Each block is passed in three loops, and once all are passed the counts decide. Assumes nothing.
 use Prim.Native.Nat.{◌-◌}
 use native.Mathlib.Omega.{arith}
-use borrow.Author.Tests.{not-true, not-false}
 use Rattle.arena.specs.Arena.{nodes_in, spare_in}
 use Rattle.arena_check.proofs.Maps.{bits_of}
 use Rattle.arena_check.proofs.Both.{few, own_of, hangs-of}
@@ -29,8 +28,8 @@ in_use-taken-requires c =
       taken_value = c.loop-n.invariant.taken_is;
     }
 
-pub own_all-tally-requires : goal.own_all-tally-requires
-own_all-tally-requires c =
+pub own_all-requires : goal.own_all-requires
+own_all-requires c =
     record {
       arena_len = c.requires.arena_len;
       free_le_slots = (omega arith, c.requires.b_bound);
@@ -38,14 +37,14 @@ own_all-tally-requires c =
       tallied = c.loop-n.invariant.tally;
     }
 
-pub returns-then-not-tally : goal.returns-then-not-tally
-returns-then-not-tally c =
+pub returns-in_err-tally : goal.returns-in_err-tally
+returns-in_err-tally c =
     let a = c.args in
-    λ A. c.own_all-tally.ensures.no (not-true _ c.if-not-tally.true) (own_of a.slots a.b a.used a.arena.now A)
+    rw c.from_residual.ensures (λ A. c.in_err-tally.ensures (own_of a.slots a.b a.used a.arena.now A))
 
 pub all_hang-requires : goal.all_hang-requires
 all_hang-requires c =
-    let t = c.own_all-tally.ensures.yes (not-false _ c.if-not-tally.false) in
+    let t = c.in_ok-tally.ensures in
     record {
       arena_len = c.requires.arena_len;
       from_le_end = (omega (arith, c.block_end-end.ensures.0), c.block_end-end.ensures.1);
@@ -65,7 +64,7 @@ pub loop-n-preserved : goal.loop-n-preserved
 loop-n-preserved c =
     record {
       in-range = c.block_end-end.ensures.1;
-      tally = c.own_all-tally.ensures.yes (not-false _ c.if-not-tally.false);
+      tally = c.in_ok-tally.ensures;
       hung = c.all_hang.ensures.yes c.if-not-all_hang.false;
       taken_is = c.in_use-taken.ensures;
     }
@@ -75,21 +74,21 @@ returns-then-taken-used c =
     let a = c.args in
     miscounted a.slots a.b a.used a.arena.now (pass-end _ _ _ _ _ c.loop-n.invariant c.loop-n-test.false) (λ e. omega (arith, c.if-taken-used.true))
 
-pub overflow_add-roots : goal.overflow_add-roots
-overflow_add-roots c =
+pub overflow_add-tally : goal.overflow_add-tally
+overflow_add-tally c =
     let a = c.args in
     omega (arith, c.loop-n.invariant.in-range, roots_few _ _ _ _ _ c.loop-n.invariant.tally, bits-few _ _ _ _ _ c.loop-n.invariant.tally (bits_of a.slots a.arena.now))
 
-pub returns-then-roots-bits : goal.returns-then-roots-bits
-returns-then-roots-bits c =
+pub returns-then-tally-used : goal.returns-then-tally-used
+returns-then-tally-used c =
     let a = c.args in
-    uneven a.slots a.b a.used a.arena.now (pass-end _ _ _ _ _ c.loop-n.invariant c.loop-n-test.false) (λ e. omega (arith, c.if-roots-bits.true))
+    uneven a.slots a.b a.used a.arena.now (pass-end _ _ _ _ _ c.loop-n.invariant c.loop-n-test.false) (λ e. omega (arith, c.if-tally-used.true))
 
 pub returns : goal.returns
 returns c =
     let a = c.args in
     let d = pass-end _ _ _ _ _ c.loop-n.invariant c.loop-n-test.false in (
-      all_true a.slots a.b a.used a.arena.now d c.requires.arena_len c.if-used-slots.false (omega (arith, c.if-taken-used.false)) (omega (arith, c.if-roots-bits.false)),
+      all_true a.slots a.b a.used a.arena.now d c.requires.arena_len c.if-used-slots.false (omega (arith, c.if-taken-used.false)) (omega (arith, c.if-tally-used.false)),
       d.tally.roots-is,
       d.tally.last-is,
     )

@@ -1,6 +1,6 @@
 -- What the stored lengths add up to is the length of the walk. Assumes nothing.
 use native.Mathlib.Omega.{arith}
-use Rattle.lists.proofs.Answers.{refused, granted}
+use borrow.Author.Tests.{eqb-true, eqb-false}
 use Rattle.inspect.proofs.Lending.{counting-asks, counting-told}
 use Rattle.inspect.proofs.count_true.Goals as goal
 
@@ -11,16 +11,10 @@ sizes-requires c =
       by_index = (counting-asks c.args.region.now c.requires.ready c.requires.placed c.requires.held).1;
     }
 
-pub returns-then-sizes-count : goal.returns-then-sizes-count
-returns-then-sizes-count c =
-    record {
-      yes = (refused (λ e. omega (arith, c.if-sizes-count.true, c.sizes.ensures, counting-told c.args.region.now c.requires.ready c.requires.placed c.requires.held))).0;
-      no = (refused (λ e. omega (arith, c.if-sizes-count.true, c.sizes.ensures, counting-told c.args.region.now c.requires.ready c.requires.placed c.requires.held))).1;
-    }
-
 pub returns : goal.returns
 returns c =
+    let t = counting-told c.args.region.now c.requires.ready c.requires.placed c.requires.held in
     record {
-      yes = (granted (omega (arith, c.if-sizes-count.false, c.sizes.ensures, counting-told c.args.region.now c.requires.ready c.requires.placed c.requires.held))).0;
-      no = (granted (omega (arith, c.if-sizes-count.false, c.sizes.ensures, counting-told c.args.region.now c.requires.ready c.requires.placed c.requires.held))).1;
+      yes = λ e. omega (arith, eqb-true _ _ e, c.sizes.ensures, t);
+      no = λ e n. omega (arith, eqb-false _ _ e, n, c.sizes.ensures, t);
     }

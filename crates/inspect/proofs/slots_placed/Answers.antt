@@ -12,7 +12,5 @@ ranks_ok-requires c =
 
 pub returns : goal.returns
 returns c =
-    record {
-      yes = (told _ (c.ranks_ok.ensures.yes, c.ranks_ok.ensures.no) (placing-told c.args.region.now c.requires) (told-placing c.args.region.now c.requires)).0;
-      no = (told _ (c.ranks_ok.ensures.yes, c.ranks_ok.ensures.no) (placing-told c.args.region.now c.requires) (told-placing c.args.region.now c.requires)).1;
-    }
+    let r = told _ (c.ranks_ok.ensures.yes, c.ranks_ok.ensures.no) (placing-told c.args.region.now c.requires) (told-placing c.args.region.now c.requires) in
+    record { yes = r.0; no = r.1 }

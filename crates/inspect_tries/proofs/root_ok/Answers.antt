@@ -1,88 +1,44 @@
--- Each answer no is of one of the four conditions; the bytes of the root stand for all suffixes, and the bits of the last level for those of an only root. Assumes nothing.
+-- The first two tests are on the record of the root; the bytes of the root stand for all suffixes. Assumes nothing.
 use Prim.Native.Nat.{ℕ}
-use mathlib.Core.Path.{◌≡◌, sym, ◌∙◌}
-use native.Mathlib.Omega.{arith}
-use lib.Dec.{eqb}
+use mathlib.Core.Path.{sym, ap, subst, ◌∙◌}
+use mathlib.Core.Bool.{true≢false}
 use lib.ListN.{length}
 use borrow.Author.Tests.{eqb-true, eqb-false}
-use Rattle.lists.proofs.Answers.{Tells, refused, told}
-use Rattle.model.specs.Words.{bytes_of}
 use Rattle.region.specs.Nodes.{Nodes}
 use Rattle.region.specs.Tries.{members}
-use Rattle.region.proofs.Paths.{At}
+use Rattle.region.specs.WellFormed.{Children}
 use Rattle.arena.specs.Arena.{nodes_in}
-use Rattle.arena_check.specs.Checks.{roots_in}
-use Rattle.inspect_tries.specs.TrieAt.{TrieAt}
 use Rattle.inspect_tries.proofs.RootBytes.{bytes-suffixes, suffixes-bytes}
-use Rattle.inspect_tries.proofs.OneRoot.{one-root}
 use Rattle.inspect_tries.proofs.root_ok.Goals as goal
+use Rattle.inspect_tries.proofs.root_ok.Goals.{then-level1-eq1, else-level1-eq1, then-parent-c, else-parent-c}
 
-pub returns-then-level1-ne1 : goal.returns-then-level1-ne1
-returns-then-level1-ne1 c =
-    record {
-      yes = (refused (λ t. c.if-level1-ne1.true (c.level1.ensures ∙ t.level))).0;
-      no = (refused (λ t. c.if-level1-ne1.true (c.level1.ensures ∙ t.level))).1;
-    }
-
-pub returns-then-parent-c : goal.returns-then-parent-c
-returns-then-parent-c c =
-    record {
-      yes = (refused (λ t. c.if-parent-c.true (c.parent.ensures ∙ t.back))).0;
-      no = (refused (λ t. c.if-parent-c.true (c.parent.ensures ∙ t.back))).1;
-    }
-
-pub returns-then-not-bytes_below : goal.returns-then-not-bytes_below
-returns-then-not-bytes_below c =
+pub returns-then-bytes_below-clause-yes : goal.returns-then-bytes_below-clause-yes
+returns-then-bytes_below-clause-yes c =
     let a = c.args in
-    record {
-      yes = (refused (λ t. c.bytes_below.ensures.no c.if-not-bytes_below.true
-          (suffixes-bytes (nodes_in a.slots a.arena.now) a.bits a.n c.first_end.result c.requires.le_bits.0 c.first_end.ensures
-          a.slots c.requires.tries.wf.down c.requires.tries.non-empty (record { in-range = c.requires.n_lt_slots; level = t.level }) t.small))).0;
-      no = (refused (λ t. c.bytes_below.ensures.no c.if-not-bytes_below.true
-          (suffixes-bytes (nodes_in a.slots a.arena.now) a.bits a.n c.first_end.result c.requires.le_bits.0 c.first_end.ensures
-          a.slots c.requires.tries.wf.down c.requires.tries.non-empty (record { in-range = c.requires.n_lt_slots; level = t.level }) t.small))).1;
-    }
+    let nodes : Nodes = nodes_in a.shape.slots a.arena.now in
+    elim c.if-parent-c.branch [
+      | then-parent-c w ↦ elim c.if-level1-eq1.branch [
+        | then-level1-eq1 u ↦ λ e. record {
+          level = sym c.level1.ensures ∙ u.if-level1-eq1.true;
+          back = sym u.parent.ensures ∙ eqb-true _ _ (sym u.value-is ∙ w.if-parent-c.true);
+          small = bytes-suffixes nodes a.bits a.n w.first_end.result c.requires.le_bits.0 w.first_end.ensures (w.bytes_below.ensures.yes (sym w.value-is ∙ c.if-bytes_below.true));
+          true-size = sym (eqb-true _ _ e) ∙ c.suffixes.ensures ∙ ap (λ (b : ℕ). length (members nodes b a.n)) c.requires.levels;
+        }
+        | else-level1-eq1 u ↦ absurd (u.if-level1-eq1.false (eqb-true _ _ (sym u.value-is ∙ w.if-parent-c.true)))
+      ]
+      | else-parent-c w ↦ absurd (true≢false (sym c.if-bytes_below.true ∙ w.value-is ∙ w.if-parent-c.false))
+    ]
 
-pub returns-then-roots-eq1 : goal.returns-then-roots-eq1
-returns-then-roots-eq1 c =
-    let nodes : Nodes =
-    nodes_in c.args.slots c.args.arena.now in
-    let size : ℕ =
-    length (members nodes (bytes_of c.args.bits) c.args.n) in
-    let sized : (counted : ℕ) → counted ≡ size → Tells (eqb counted c.args.len) (TrieAt nodes c.args.bits c.args.n c.args.c c.args.len) =
-    λ counted is. let a = c.args in
-    told _ (eqb-true _ _, eqb-false _ _)
-    (λ z. record {
-      level = sym c.level1.ensures ∙ c.if-level1-ne1.false;
-      back = sym c.parent.ensures ∙ c.if-parent-c.false;
-      small = bytes-suffixes nodes a.bits a.n c.first_end.result c.requires.le_bits.0 c.first_end.ensures (c.bytes_below.ensures.yes c.if-not-bytes_below.false);
-      true-size = sym z ∙ is;
-    })
-    (λ t. is ∙ sym t.true-size) in
-    let root : At nodes c.args.slots 0 c.args.n = record { in-range = c.requires.n_lt_slots; level = sym c.level1.ensures ∙ c.if-level1-ne1.false } in
-    let one : roots_in nodes c.args.slots ≡ 1 = omega (arith, c.requires.roots_value, c.if-roots-eq1.true) in
-    record {
-      yes = (sized c.args.last (c.requires.last_value ∙ sym (one-root nodes c.args.slots (bytes_of c.args.bits) c.args.n (λ n x. omega arith) c.requires.tries.wf root one))).0;
-      no = (sized c.args.last (c.requires.last_value ∙ sym (one-root nodes c.args.slots (bytes_of c.args.bits) c.args.n (λ n x. omega arith) c.requires.tries.wf root one))).1;
-    }
-
-pub returns : goal.returns
-returns c =
-    let nodes : Nodes =
-    nodes_in c.args.slots c.args.arena.now in
-    let size : ℕ =
-    length (members nodes (bytes_of c.args.bits) c.args.n) in
-    let sized : (counted : ℕ) → counted ≡ size → Tells (eqb counted c.args.len) (TrieAt nodes c.args.bits c.args.n c.args.c c.args.len) =
-    λ counted is. let a = c.args in
-    told _ (eqb-true _ _, eqb-false _ _)
-    (λ z. record {
-      level = sym c.level1.ensures ∙ c.if-level1-ne1.false;
-      back = sym c.parent.ensures ∙ c.if-parent-c.false;
-      small = bytes-suffixes nodes a.bits a.n c.first_end.result c.requires.le_bits.0 c.first_end.ensures (c.bytes_below.ensures.yes c.if-not-bytes_below.false);
-      true-size = sym z ∙ is;
-    })
-    (λ t. is ∙ sym t.true-size) in
-    record {
-      yes = (sized c.count.result c.count.ensures).0;
-      no = (sized c.count.result c.count.ensures).1;
-    }
+pub returns-else-bytes_below-clause-no : goal.returns-else-bytes_below-clause-no
+returns-else-bytes_below-clause-no c =
+    let a = c.args in
+    let nodes : Nodes = nodes_in a.shape.slots a.arena.now in
+    elim c.if-parent-c.branch [
+      | then-parent-c w ↦ λ e t. w.bytes_below.ensures.no (sym w.value-is ∙ e)
+          (suffixes-bytes nodes a.bits a.n w.first_end.result c.requires.le_bits.0 w.first_end.ensures
+          a.shape.slots (subst (Children nodes a.shape.slots) c.requires.levels c.requires.tries.wf.down) c.requires.tries.non-empty (record { in-range = c.requires.n_lt_slots; level = t.level }) t.small)
+      | else-parent-c w ↦ λ e t. elim c.if-level1-eq1.branch [
+        | then-level1-eq1 u ↦ eqb-false _ _ (sym u.value-is ∙ w.if-parent-c.false) (u.parent.ensures ∙ t.back)
+        | else-level1-eq1 u ↦ u.if-level1-eq1.false (c.level1.ensures ∙ t.level)
+      ]
+    ]

@@ -6,7 +6,8 @@ use native.Mathlib.Omega.{arith}
 use Rattle.region.specs.Areas.{numbers}
 use Rattle.region.specs.Nodes.{Nodes}
 use Rattle.region.specs.Seen.{seen}
-use Rattle.lists.proofs.Answers.{refused, granted}
+use borrow.Author.Tests.{eqb-true, eqb-false}
+use Rattle.lists.proofs.Answers.{refused}
 use Rattle.arena_check.specs.Checks.{roots_in}
 use Rattle.inspect_tries.proofs.Lent.{nodes-are}
 use Rattle.inspect_tries.proofs.Roots.{Passed, pass-start, tries-few, pass-trie, pass-other, pass-end, matched, matching}
@@ -44,28 +45,15 @@ loop-c-preserved c =
       | else-kind-eq2 w ↦ pass-other _ _ c.loop-c.invariant h (λ e. w.if-kind-eq2.false (c.kind.ensures ∙ e)) w.tries-is
     ]
 
-pub returns-then-tries-roots : goal.returns-then-tries-roots
-returns-then-tries-roots c =
-    let words : List ℕ =
-    c.args.region.now in
-    let all : Passed (numbers words) (seen (numbers words) words) (numbers words).C c.loop-c.tries =
-    pass-end _ _ c.loop-c.invariant (omega (arith, c.loop-c-test.false, c.c-slots.ensures)) in
-    let roots : c.args.roots ≡ roots_in (seen (numbers words) words).node (numbers words).N =
-    c.requires.roots_value ∙ ap (λ (m : Nodes). roots_in m (numbers words).N) (nodes-are words c.requires.ready) in
-    record {
-      yes = (refused (λ a. omega (arith, c.if-tries-roots.true, matching _ _ all roots a))).0;
-      no = (refused (λ a. omega (arith, c.if-tries-roots.true, matching _ _ all roots a))).1;
-    }
-
 pub returns : goal.returns
 returns c =
     let words : List ℕ =
     c.args.region.now in
     let all : Passed (numbers words) (seen (numbers words) words) (numbers words).C c.loop-c.tries =
     pass-end _ _ c.loop-c.invariant (omega (arith, c.loop-c-test.false, c.c-slots.ensures)) in
-    let roots : c.args.roots ≡ roots_in (seen (numbers words) words).node (numbers words).N =
+    let roots : c.args.nodes.roots ≡ roots_in (seen (numbers words) words).node (numbers words).N =
     c.requires.roots_value ∙ ap (λ (m : Nodes). roots_in m (numbers words).N) (nodes-are words c.requires.ready) in
     record {
-      yes = (granted (matched _ _ all roots (omega (arith, c.if-tries-roots.false)))).0;
-      no = (granted (matched _ _ all roots (omega (arith, c.if-tries-roots.false)))).1;
+      yes = λ e. matched _ _ all roots (omega (arith, eqb-true _ _ e));
+      no = λ e a. omega (arith, eqb-false _ _ e, matching _ _ all roots a);
     }

@@ -1,5 +1,4 @@
 -- Each turn passes one slot more, and once all are passed the counts decide. Assumes nothing.
-use Prim.Native.Nat.{◌-◌}
 use Rattle.region.specs.Areas.{numbers}
 use Rattle.region.specs.Seen.{seen}
 use Rattle.inspect_tries.proofs.Roots.{Passed}
@@ -7,6 +6,3 @@ use Rattle.inspect_tries.proofs.tries_ok.Given as goal
 
 abbrev pub invariant-loop-c : goal.invariant-loop-c
 invariant-loop-c l = Passed (numbers l.region) (seen (numbers l.region) l.region) l.c l.tries
-
-abbrev pub decreases-loop-c : goal.decreases-loop-c
-decreases-loop-c l = l.slots - l.c

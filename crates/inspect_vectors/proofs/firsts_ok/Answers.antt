@@ -1,6 +1,5 @@
 -- A first entry that is too high is no vector's; nothing else is said. Assumes nothing.
 use mathlib.Core.Path.{sym, ◌∙◌}
-use mathlib.Core.Bool.{true≢false}
 use native.Mathlib.Omega.{arith}
 use Rattle.inspect_vectors.proofs.Strips.{S-high, first-high}
 use Rattle.inspect_vectors.proofs.firsts_ok.Goals as goal
@@ -8,30 +7,10 @@ use Rattle.inspect_vectors.proofs.firsts_ok.Goals as goal
 pub overflow_shl-bound : goal.overflow_shl-bound
 overflow_shl-bound c = omega (arith, c.s.ensures, S-high c.args.region.now c.requires)
 
-pub loop-d-init : goal.loop-d-init
-loop-d-init c = omega arith
-
-pub returns-then-d-c-ge-AHEAD : goal.returns-then-d-c-ge-AHEAD
-returns-then-d-c-ge-AHEAD c =
-    record {
-      no =
-          λ e. absurd (true≢false e);
-    }
-
 pub returns-then-entry-bound : goal.returns-then-entry-bound
 returns-then-entry-bound c =
     record {
       no =
           λ e all. first-high c.args.region.now c.requires c.s.result c.loop-d.d c.entry.result c.s.ensures c.entry.ensures c.if-entry-bound.true
-          (all c.loop-d.d (omega (arith, c.c-slots.ensures, c.loop-d-test.true)) (sym c.kind.ensures ∙ c.if-kind-eq1.true));
-    }
-
-pub loop-d-preserved : goal.loop-d-preserved
-loop-d-preserved c = omega (arith, c.loop-d.invariant)
-
-pub returns : goal.returns
-returns c =
-    record {
-      no =
-          λ e. absurd (true≢false e);
+          (all c.loop-d.d (omega (arith, c.c.ensures, c.min-end.ensures)) (sym c.kind.ensures ∙ c.if-kind-eq1.true));
     }

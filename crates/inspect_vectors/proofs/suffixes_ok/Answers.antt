@@ -5,7 +5,7 @@ use Prim.Native.Nat.{ℕ, ◌^◌}
 use native.Mathlib.Omega.{arith}
 use lib.Dec.{ltb}
 use Rattle.lists.specs.Lists.{all}
-use Rattle.lists.proofs.Answers.{refused, told}
+use Rattle.lists.proofs.Answers.{told}
 use Rattle.lists.proofs.Laws.{ascending-distinct}
 use Rattle.inspect_vectors.proofs.Strips.{one_up}
 use Rattle.inspect_vectors.proofs.suffixes_ok.Goals as goal
@@ -22,20 +22,20 @@ returns-then-rising c =
       no = (λ e t. false≢true (sym e ∙ is ∙ t.0));
     }
 
-pub returns-then-not-below : goal.returns-then-not-below
-returns-then-not-below c =
+pub returns-then-below : goal.returns-then-below
+returns-then-below c =
     let bound-is : c.below.result ≡ all (λ x. ltb x (2 ^ c.args.bits)) c.args.suffixes.now =
     c.below.ensures ∙ ap (λ (b : ℕ). all (λ x. ltb x b) c.args.suffixes.now) (one_up c.args.bits (omega (arith, c.requires))) in
     record {
-      yes = (refused (λ t. false≢true (sym c.if-not-below.true ∙ bound-is ∙ t.0))).0;
-      no = (refused (λ t. false≢true (sym c.if-not-below.true ∙ bound-is ∙ t.0))).1;
+      yes = (told _ (c.distinct.ensures.yes, c.distinct.ensures.no) (λ d. (sym bound-is ∙ c.if-below.true, d)) (λ t. t.1)).0;
+      no = (told _ (c.distinct.ensures.yes, c.distinct.ensures.no) (λ d. (sym bound-is ∙ c.if-below.true, d)) (λ t. t.1)).1;
     }
 
-pub returns : goal.returns
-returns c =
+pub returns-else-below : goal.returns-else-below
+returns-else-below c =
     let bound-is : c.below.result ≡ all (λ x. ltb x (2 ^ c.args.bits)) c.args.suffixes.now =
     c.below.ensures ∙ ap (λ (b : ℕ). all (λ x. ltb x b) c.args.suffixes.now) (one_up c.args.bits (omega (arith, c.requires))) in
     record {
-      yes = (told _ (c.distinct.ensures.yes, c.distinct.ensures.no) (λ d. (sym bound-is ∙ c.if-not-below.false, d)) (λ t. t.1)).0;
-      no = (told _ (c.distinct.ensures.yes, c.distinct.ensures.no) (λ d. (sym bound-is ∙ c.if-not-below.false, d)) (λ t. t.1)).1;
+      yes = λ e. absurd (false≢true (sym c.if-below.false ∙ e));
+      no = λ _ t. false≢true (sym c.if-below.false ∙ bound-is ∙ t.0);
     }

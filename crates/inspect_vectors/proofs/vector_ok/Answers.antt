@@ -3,20 +3,20 @@ use mathlib.Core.Path.{refl}
 use native.Mathlib.Omega.{arith}
 use Rattle.lists.proofs.Answers.{refused, told}
 use Rattle.inspect_vectors.proofs.Strips.{S-high, vector-of, of-vector}
+use Rattle.inspect_vectors.proofs.vector_ok.Goals.{then-len-eq0-via-then-len-eq0, then-len-eq0-via-else-len-eq0+then-len-gt-THRESHOLD}
 use Rattle.inspect_vectors.proofs.vector_ok.Goals as goal
 
 pub returns-then-len-eq0 : goal.returns-then-len-eq0
 returns-then-len-eq0 c =
     record {
-      yes = (refused (λ w. omega (arith, w.some, c.size-len.ensures, c.if-len-eq0.true))).0;
-      no = (refused (λ w. omega (arith, w.some, c.size-len.ensures, c.if-len-eq0.true))).1;
-    }
-
-pub returns-then-len-gt-THRESHOLD : goal.returns-then-len-gt-THRESHOLD
-returns-then-len-gt-THRESHOLD c =
-    record {
-      yes = (refused (λ w. omega (arith, w.few, c.size-len.ensures, c.if-len-gt-THRESHOLD.true))).0;
-      no = (refused (λ w. omega (arith, w.few, c.size-len.ensures, c.if-len-gt-THRESHOLD.true))).1;
+      yes = (refused (λ w. elim c.then-len-eq0.branch [
+        | then-len-eq0-via-then-len-eq0 u ↦ omega (arith, w.some, c.size-len.ensures)
+        | then-len-eq0-via-else-len-eq0+then-len-gt-THRESHOLD u ↦ omega (arith, w.few, c.size-len.ensures)
+      ])).0;
+      no = (refused (λ w. elim c.then-len-eq0.branch [
+        | then-len-eq0-via-then-len-eq0 u ↦ omega (arith, w.some, c.size-len.ensures)
+        | then-len-eq0-via-else-len-eq0+then-len-gt-THRESHOLD u ↦ omega (arith, w.few, c.size-len.ensures)
+      ])).1;
     }
 
 pub suffixes_ok-requires : goal.suffixes_ok-requires

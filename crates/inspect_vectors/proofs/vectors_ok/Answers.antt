@@ -3,11 +3,11 @@ use mathlib.Core.Path.{sym, ◌∙◌}
 use native.Mathlib.Omega.{arith}
 use Rattle.lists.proofs.Answers.{refused, granted}
 use Rattle.inspect_vectors.proofs.Passing.{pass-start, pass-next, pass-end}
-use Rattle.inspect_vectors.proofs.vectors_ok.Goals.{then-kind-eq1+else-not-vector_ok, else-kind-eq1}
+use Rattle.inspect_vectors.proofs.vectors_ok.Goals.{else-kind-eq1-via-then-kind-eq1+else-not-vector_ok, else-kind-eq1-via-else-kind-eq1}
 use Rattle.inspect_vectors.proofs.vectors_ok.Goals as goal
 
 pub loop-c-init : goal.loop-c-init
-loop-c-init c = (omega arith, pass-start)
+loop-c-init c = pass-start
 
 pub returns-then-not-firsts_ok : goal.returns-then-not-firsts_ok
 returns-then-not-firsts_ok c =
@@ -24,14 +24,16 @@ returns-then-not-vector_ok c =
     }
 
 pub loop-c-preserved : goal.loop-c-preserved
-loop-c-preserved c = (
-  omega (arith, c.loop-c-test.true),
-  pass-next c.loop-c.invariant.1 (λ e. elim c.if-kind-eq1.branch [ then-kind-eq1+else-not-vector_ok w ↦ w.vector_ok.ensures.yes w.if-not-vector_ok.false | else-kind-eq1 w ↦ absurd (w.if-kind-eq1.false (c.kind.ensures ∙ e)) ]),
-)
+loop-c-preserved c =
+    pass-next c.loop-c.invariant
+    (λ e. elim c.else-kind-eq1.branch [
+      | else-kind-eq1-via-then-kind-eq1+else-not-vector_ok w ↦ w.vector_ok.ensures.yes w.if-not-vector_ok.false
+      | else-kind-eq1-via-else-kind-eq1 w ↦ absurd (w.if-kind-eq1.false (c.kind.ensures ∙ e))
+    ])
 
 pub returns : goal.returns
 returns c =
     record {
-      yes = (granted (pass-end (omega (arith, c.c-slots.ensures)) c.loop-c.invariant.1)).0;
-      no = (granted (pass-end (omega (arith, c.c-slots.ensures)) c.loop-c.invariant.1)).1;
+      yes = (granted (pass-end (omega (arith, c.c-slots.ensures)) c.loop-c.invariant)).0;
+      no = (granted (pass-end (omega (arith, c.c-slots.ensures)) c.loop-c.invariant)).1;
     }

@@ -18,8 +18,6 @@ add-left-requires c =
     record {
       arena = o.invariant.1.arena;
       root = o.invariant.1.root;
-      le_b = c.requires.le_b;
-      b_bound = c.requires.b_bound;
       suffix_bound = c.requires.by_index (o.i - 1) h;
       root_value = absent _ _ _ _ _ a.strip.now _ _ (o.i - 1) o.i e h o.invariant.1 c.requires.distinct;
       root_bound = enough _ _ _ _ _ a.strip.now _ _ (o.i - 1) o.i e h o.invariant.1 c.requires.strip_bound;

@@ -6,7 +6,4 @@ use Rattle.arena.specs.Arena.{Became}
 use Rattle.trie_pour.proofs.grow.Given as goal
 
 abbrev pub invariant-loop-i : goal.invariant-loop-i
-invariant-loop-i l = (l.i < length l.strip) × Became l.slots l.b l.used l.initial.arena l.root (sorted (drop l.i l.strip)) l.left l.arena
-
-abbrev pub decreases-loop-i : goal.decreases-loop-i
-decreases-loop-i l = l.i
+invariant-loop-i l = (l.i < length l.strip) × Became l.shape.slots l.shape.b l.used l.initial.arena l.root (sorted (drop l.i l.strip)) l.left l.arena

@@ -13,37 +13,33 @@ overflow_sub-slots c = omega (arith, used-fits (arena-stack c.requires.arena))
 pub returns-then-not-fits : goal.returns-then-not-fits
 returns-then-not-fits c =
     let a = c.args in
-    (too_many a.slots a.b a.used a.strip.now c.fits.result c.fits.ensures (used-fits (arena-stack c.requires.arena)) c.if-not-fits.true, refl)
+    (too_many a.shape.slots a.shape.b a.used a.strip.now c.fits.result c.fits.ensures (used-fits (arena-stack c.requires.arena)) c.if-not-fits.true, refl)
 
 pub plant_one-root-requires : goal.plant_one-root-requires
 plant_one-root-requires c =
-    let all_fit : c.args.used + trie_nodes c.args.b c.args.strip.now ≤ c.args.slots =
-    fit c.args.slots c.args.b c.args.used c.args.strip.now c.fits.result c.fits.ensures (used-fits (arena-stack c.requires.arena)) c.if-not-fits.false in
-    let s = some-nodes c.args.b c.args.strip.now c.requires.in_bounds in
+    let all_fit : c.args.used + trie_nodes c.args.shape.b c.args.strip.now ≤ c.args.shape.slots =
+    fit c.args.shape.slots c.args.shape.b c.args.used c.args.strip.now c.fits.result c.fits.ensures (used-fits (arena-stack c.requires.arena)) c.if-not-fits.false in
+    let s = some-nodes c.args.shape.b c.args.strip.now c.requires.in_bounds in
     record {
       arena = c.requires.arena;
-      le_b = c.requires.le_b;
-      b_bound = c.requires.b_bound;
       suffix_bound = c.requires.by_index _ (omega arith);
       b_bound_2 = omega (arith, all_fit);
     }
 
 pub overflow_add-used : goal.overflow_add-used
 overflow_add-used c =
-    let all_fit : c.args.used + trie_nodes c.args.b c.args.strip.now ≤ c.args.slots =
-    fit c.args.slots c.args.b c.args.used c.args.strip.now c.fits.result c.fits.ensures (used-fits (arena-stack c.requires.arena)) c.if-not-fits.false in
-    omega (arith, some-nodes c.args.b c.args.strip.now c.requires.in_bounds, all_fit)
+    let all_fit : c.args.used + trie_nodes c.args.shape.b c.args.strip.now ≤ c.args.shape.slots =
+    fit c.args.shape.slots c.args.shape.b c.args.used c.args.strip.now c.fits.result c.fits.ensures (used-fits (arena-stack c.requires.arena)) c.if-not-fits.false in
+    omega (arith, some-nodes c.args.shape.b c.args.strip.now c.requires.in_bounds, all_fit)
 
 pub grow-left-requires : goal.grow-left-requires
 grow-left-requires c =
-    let all_fit : c.args.used + trie_nodes c.args.b c.args.strip.now ≤ c.args.slots =
-    fit c.args.slots c.args.b c.args.used c.args.strip.now c.fits.result c.fits.ensures (used-fits (arena-stack c.requires.arena)) c.if-not-fits.false in
+    let all_fit : c.args.used + trie_nodes c.args.shape.b c.args.strip.now ≤ c.args.shape.slots =
+    fit c.args.shape.slots c.args.shape.b c.args.used c.args.strip.now c.fits.result c.fits.ensures (used-fits (arena-stack c.requires.arena)) c.if-not-fits.false in
     let p = c.plant_one-root.ensures in
     record {
       arena = p.arena;
       root = p.root;
-      le_b = c.requires.le_b;
-      b_bound = c.requires.b_bound;
       in_bounds = c.requires.in_bounds;
       by_index = c.requires.by_index;
       distinct = c.requires.distinct;

@@ -4,4 +4,4 @@ use Rattle.trie_walk.proofs.Roots.{counted}
 use Rattle.trie_walk.proofs.count.Goals as goal
 
 pub returns : goal.returns
-returns c = counted (nodes_in c.args.slots c.args.arena.now) c.args.b c.args.root _ _ _ _ c.requires.b_bound c.pour-s.ensures
+returns c = counted (nodes_in c.args.shape.slots c.args.arena.now) c.args.shape.b c.args.root _ _ _ _ c.args.shape.levels.1 c.pour-s.ensures

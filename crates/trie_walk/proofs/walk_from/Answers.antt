@@ -9,6 +9,6 @@ pub returns : goal.returns
 returns c =
     let a = c.args in
     record {
-      number = (written 0 _ _ (not_below a.from (members (nodes_in a.slots a.arena.now) a.b a.root)) a.out.now _ c.pour-s.ensures).0;
-      written = (written 0 _ _ (not_below a.from (members (nodes_in a.slots a.arena.now) a.b a.root)) a.out.now _ c.pour-s.ensures).1;
+      number = (written 0 _ _ (not_below a.from (members (nodes_in a.shape.slots a.arena.now) a.shape.b a.root)) a.out.now _ c.pour-s.ensures).0;
+      written = (written 0 _ _ (not_below a.from (members (nodes_in a.shape.slots a.arena.now) a.shape.b a.root)) a.out.now _ c.pour-s.ensures).1;
     }

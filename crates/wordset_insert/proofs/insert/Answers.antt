@@ -23,7 +23,7 @@ find-requires c =
 pub insert_at-requires : goal.insert_at-requires
 insert_at-requires c =
     let a = parted c.requires.well_formed c.args.w c.requires.w_bound c.s-bits.result c.s-bits.ensures c.prefix_of-p.result c.suffix_of-s.result c.prefix_of-p.ensures c.suffix_of-s.ensures in
-    let d = subst (FoundAs c.args.region.now c.prefix_of-p.result) c.in-At.is c.find.ensures in
+    let d = subst (FoundAs c.args.region.now c.prefix_of-p.result) c.in-Some.is c.find.ensures in
     record {
       well_formed = c.requires.well_formed;
       c_bound = c-small a d.0 d.1;
@@ -34,7 +34,7 @@ insert_at-requires c =
 pub returns-then-k-c : goal.returns-then-k-c
 returns-then-k-c c =
     let a = parted c.requires.well_formed c.args.w c.requires.w_bound c.s-bits.result c.s-bits.ensures c.prefix_of-p.result c.suffix_of-s.result c.prefix_of-p.ensures c.suffix_of-s.ensures in
-    clear-full a (subst (FoundAs c.args.region.now c.prefix_of-p.result) c.in-Nowhere.is c.find.ensures) (omega (arith, c.if-k-c.true, c.c.ensures, c.k.ensures)) refl
+    clear-full a (subst (FoundAs c.args.region.now c.prefix_of-p.result) c.in-None.is c.find.ensures) (omega (arith, c.if-k-c.true, c.c.ensures, c.k.ensures)) refl
 
 pub open-requires : goal.open-requires
 open-requires c =
@@ -42,18 +42,18 @@ open-requires c =
     record {
       well_formed = c.requires.well_formed;
       p_bound = p-small a;
-      p_value = subst (FoundAs c.args.region.now c.prefix_of-p.result) c.in-Nowhere.is c.find.ensures;
+      p_value = subst (FoundAs c.args.region.now c.prefix_of-p.result) c.in-None.is c.find.ensures;
       region_bound = omega (arith, c.if-k-c.false, c.c.ensures, c.k.ensures);
       s_bound = s-small a;
     }
 
-pub returns-in-At : goal.returns-in-At
-returns-in-At c =
+pub returns-in-Some : goal.returns-in-Some
+returns-in-Some c =
     let a = parted c.requires.well_formed c.args.w c.requires.w_bound c.s-bits.result c.s-bits.ensures c.prefix_of-p.result c.suffix_of-s.result c.prefix_of-p.ensures c.suffix_of-s.ensures in
-    let d = subst (FoundAs c.args.region.now c.prefix_of-p.result) c.in-At.is c.find.ensures in
+    let d = subst (FoundAs c.args.region.now c.prefix_of-p.result) c.in-Some.is c.find.ensures in
     at_done a d.0 d.1 c.insert_at.result c.insert_at.new.region c.insert_at.ensures
 
 pub returns-else-k-c : goal.returns-else-k-c
 returns-else-k-c c =
     let a = parted c.requires.well_formed c.args.w c.requires.w_bound c.s-bits.result c.s-bits.ensures c.prefix_of-p.result c.suffix_of-s.result c.prefix_of-p.ensures c.suffix_of-s.ensures in
-    clear-opened a (subst (FoundAs c.args.region.now c.prefix_of-p.result) c.in-Nowhere.is c.find.ensures) c.open.ensures
+    clear-opened a (subst (FoundAs c.args.region.now c.prefix_of-p.result) c.in-None.is c.find.ensures) c.open.ensures

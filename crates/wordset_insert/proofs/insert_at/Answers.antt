@@ -2,6 +2,7 @@
 use mathlib.Core.Path.{refl, sym, ◌∙◌}
 use mathlib.Core.Bool.{true, false}
 use native.Mathlib.Omega.{arith}
+use Rattle.std.proofs.lemmas.Result.{err_from_is_err_and}
 use Rattle.wordset_insert.proofs.Inserting.{stands_set, stands-there, joined-parted, s-small, c-trie, found-is, set-old, put-done, small_is, full_is, push-done, grow-done, grow-full}
 use Rattle.wordset_insert.proofs.insert_at.Goals as goal
 
@@ -77,16 +78,6 @@ grow-requires c =
       c_value_3 = none;
     }
 
-pub returns-then-grow : goal.returns-then-grow
-returns-then-grow c =
-    let a = joined-parted c.requires.well_formed c.requires.c_bound c.requires.c_nonzero c.requires.s_bound in
-    let set = stands_set c.requires.well_formed c.requires.c_bound c.requires.c_nonzero in
-    let there = stands-there c.requires.well_formed c.requires.c_bound c.requires.c_nonzero in
-    let vector = sym c.kind.ensures ∙ c.if-kind-ne1.false in
-    let none = found-is a set there c.in_vector.result false c.in_vector.ensures c.if-in_vector.false in
-    let full = full_is a set there vector c.size.result c.size.ensures (omega (arith, c.if-size-lt-THRESHOLD.false)) in
-    grow-done a set there vector none full c.grow.result c.grow.new.region c.grow.ensures c.if-grow.true
-
 pub returns : goal.returns
 returns c =
     let a = joined-parted c.requires.well_formed c.requires.c_bound c.requires.c_nonzero c.requires.s_bound in
@@ -95,4 +86,15 @@ returns c =
     let vector = sym c.kind.ensures ∙ c.if-kind-ne1.false in
     let none = found-is a set there c.in_vector.result false c.in_vector.ensures c.if-in_vector.false in
     let full = full_is a set there vector c.size.result c.size.ensures (omega (arith, c.if-size-lt-THRESHOLD.false)) in
-    grow-full a set there vector none full c.grow.result c.grow.new.region c.grow.ensures c.if-grow.false
+    grow-done a set there vector none full c.grow.result c.grow.new.region c.grow.ensures c.in_ok-grow.was
+
+pub returns-in_err-grow : goal.returns-in_err-grow
+returns-in_err-grow c =
+    let a = joined-parted c.requires.well_formed c.requires.c_bound c.requires.c_nonzero c.requires.s_bound in
+    let set = stands_set c.requires.well_formed c.requires.c_bound c.requires.c_nonzero in
+    let there = stands-there c.requires.well_formed c.requires.c_bound c.requires.c_nonzero in
+    let vector = sym c.kind.ensures ∙ c.if-kind-ne1.false in
+    let none = found-is a set there c.in_vector.result false c.in_vector.ensures c.if-in_vector.false in
+    let full = full_is a set there vector c.size.result c.size.ensures (omega (arith, c.if-size-lt-THRESHOLD.false)) in
+    let p = err_from_is_err_and c.from_residual.result c.from_residual.ensures.1 in
+    rw p.1 (grow-full a set there vector none full c.grow.result c.grow.new.region c.grow.ensures c.in_err-grow.was)

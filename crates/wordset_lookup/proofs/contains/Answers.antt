@@ -1,10 +1,9 @@
 -- A clear prefix has no word; a set one leads to the slot that holds its suffixes. Assumes nothing.
 use Prim.Native.Nat.{ℕ}
-use mathlib.Core.Path.{refl, sym, ap, subst}
+use mathlib.Core.Path.{refl, sym, ap}
 use mathlib.Core.Bool.{false}
 use native.Mathlib.Omega.{arith}
 use lib.Dec.{eqb}
-use Rattle.lens.specs.Found.{FoundAs}
 use Rattle.wordset_lookup.proofs.Looks.{S-high, prefix-fits, clear-answer, slot-fits, slot-used, suffix-fits, set-answer}
 use Rattle.wordset_lookup.proofs.contains.Goals as goal
 
@@ -33,30 +32,27 @@ in_slot-requires c =
     let bits = c.s-bits.result in
     let eb = c.s-bits.ensures in
     let q = c.prefix_of in
-    let found = subst (FoundAs l q.result) c.in-At.is c.find.ensures in
     record {
       well_formed = c.requires.well_formed;
-      c_bound = slot-fits l c.requires.well_formed w c.requires.w_bound bits eb q.result q.ensures found.0 c.in-At.c found.1;
-      c_nonzero = slot-used l c.requires.well_formed w c.requires.w_bound bits eb q.result q.ensures found.0 c.in-At.c found.1;
-      s_bound = suffix-fits l c.requires.well_formed w c.requires.w_bound bits eb q.result q.ensures found.0 c.in-At.c found.1 c.suffix_of.result c.suffix_of.ensures;
+      c_bound = slot-fits l c.requires.well_formed w c.requires.w_bound bits eb q.result q.ensures c.in-Some.ensures.0 c.in-Some.c c.in-Some.ensures.1;
+      in_use = slot-used l c.requires.well_formed w c.requires.w_bound bits eb q.result q.ensures c.in-Some.ensures.0 c.in-Some.c c.in-Some.ensures.1;
+      s_bound = suffix-fits l c.requires.well_formed w c.requires.w_bound bits eb q.result q.ensures c.in-Some.ensures.0 c.in-Some.c c.in-Some.ensures.1 c.suffix_of.result c.suffix_of.ensures;
     }
 
-pub returns-in-At : goal.returns-in-At
-returns-in-At c =
+pub returns-in-Some : goal.returns-in-Some
+returns-in-Some c =
     let l = c.args.region.now in
     let w = c.args.w in
     let bits = c.s-bits.result in
     let eb = c.s-bits.ensures in
     let q = c.prefix_of in
-    let found = subst (FoundAs l q.result) c.in-At.is c.find.ensures in
-    set-answer l c.requires.well_formed w c.requires.w_bound bits eb q.result q.ensures found.0 c.in-At.c found.1 c.suffix_of.result c.suffix_of.ensures c.in_slot.result c.in_slot.ensures
+    set-answer l c.requires.well_formed w c.requires.w_bound bits eb q.result q.ensures c.in-Some.ensures.0 c.in-Some.c c.in-Some.ensures.1 c.suffix_of.result c.suffix_of.ensures c.in_slot.result c.in_slot.ensures
 
-pub returns-in-Nowhere : goal.returns-in-Nowhere
-returns-in-Nowhere c =
+pub returns-in-None : goal.returns-in-None
+returns-in-None c =
     let l = c.args.region.now in
     let w = c.args.w in
     let bits = c.s-bits.result in
     let eb = c.s-bits.ensures in
     let q = c.prefix_of in
-    let clear = subst (FoundAs l q.result) c.in-Nowhere.is c.find.ensures in
-    clear-answer l c.requires.well_formed w c.requires.w_bound bits eb q.result q.ensures false (sym (ap (λ (z : ℕ). eqb z 1) clear)) refl
+    clear-answer l c.requires.well_formed w c.requires.w_bound bits eb q.result q.ensures false (sym (ap (λ (z : ℕ). eqb z 1) c.in-None.ensures)) refl

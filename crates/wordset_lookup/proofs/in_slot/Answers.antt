@@ -8,6 +8,6 @@ in_trie-requires c =
     record {
       well_formed = c.requires.well_formed;
       c_bound = c.requires.c_bound;
-      c_value = kind-two c.args.region.now c.requires.well_formed c.args.c c.requires.c_bound c.requires.c_nonzero (λ z. c.if-kind-eq1.false (c.kind.ensures ∙ z));
+      is_trie = kind-two c.args.region.now c.requires.well_formed c.args.c c.requires.c_bound c.requires.in_use (λ z. c.if-kind-eq1.false (c.kind.ensures ∙ z));
       s_bound = c.requires.s_bound;
     }

@@ -6,10 +6,10 @@ use Rattle.wordset_lookup.proofs.Looks.{entries-inside, vector-part}
 use Rattle.wordset_lookup.proofs.in_vector.Goals as goal
 
 pub overflow_add-start-2 : goal.overflow_add-start-2
-overflow_add-start-2 c = omega (arith, entries-inside c.args.region.now c.requires.well_formed c.args.c c.requires.c_bound c.requires.c_value c.size-len.result c.size-len.ensures)
+overflow_add-start-2 c = omega (arith, entries-inside c.args.region.now c.requires.well_formed c.args.c c.requires.c_bound c.requires.is_vector c.size-len.result c.size-len.ensures)
 
 pub slice_bounds-contains-end : goal.slice_bounds-contains-end
-slice_bounds-contains-end c = omega (arith, entries-inside c.args.region.now c.requires.well_formed c.args.c c.requires.c_bound c.requires.c_value c.size-len.result c.size-len.ensures)
+slice_bounds-contains-end c = omega (arith, entries-inside c.args.region.now c.requires.well_formed c.args.c c.requires.c_bound c.requires.is_vector c.size-len.result c.size-len.ensures)
 
 pub returns : goal.returns
-returns c = c.contains.ensures ∙ ap (mem c.args.s) (vector-part c.args.region.now c.requires.well_formed c.args.c c.requires.c_bound c.requires.c_value _ c.size-len.result refl c.size-len.ensures)
+returns c = c.contains.ensures ∙ ap (mem c.args.s) (vector-part c.args.region.now c.requires.well_formed c.args.c c.requires.c_bound c.requires.is_vector _ c.size-len.result refl c.size-len.ensures)

@@ -6,17 +6,17 @@ use Rattle.wordset_remove.proofs.Removing.{nothing-there, place_inside, several,
 use Rattle.wordset_remove.proofs.from_vector.Goals as goal
 
 pub overflow_add-start-2 : goal.overflow_add-start-2
-overflow_add-start-2 c = omega (arith, entries-inside c.args.region.now c.requires.well_formed c.args.c c.requires.c_bound c.requires.c_value c.size-len.result c.size-len.ensures)
+overflow_add-start-2 c = omega (arith, entries-inside c.args.region.now c.requires.well_formed c.args.c c.requires.c_bound c.requires.is_vector c.size-len.result c.size-len.ensures)
 
 pub slice_bounds-find-end : goal.slice_bounds-find-end
-slice_bounds-find-end c = omega (arith, entries-inside c.args.region.now c.requires.well_formed c.args.c c.requires.c_bound c.requires.c_value c.size-len.result c.size-len.ensures)
+slice_bounds-find-end c = omega (arith, entries-inside c.args.region.now c.requires.well_formed c.args.c c.requires.c_bound c.requires.is_vector c.size-len.result c.size-len.ensures)
 
 pub close-requires : goal.close-requires
 close-requires c =
     record {
       well_formed = c.requires.well_formed;
       c_bound = c.requires.c_bound;
-      c_value = c.requires.c_value;
+      c_value = c.requires.is_vector;
       c_value_2 = sym c.size-len.ensures ∙ (omega arith);
     }
 
@@ -25,16 +25,16 @@ take-requires c =
     record {
       well_formed = c.requires.well_formed;
       c_bound = c.requires.c_bound;
-      c_value = c.requires.c_value;
-      bound = several c.args.region.now c.requires.well_formed c.args.c c.requires.c_bound c.requires.c_value _ c.size-len.result refl c.size-len.ensures c.args.s c.find.result c.find.ensures c.in-At.is (omega arith);
-      i_bound = place_inside c.args.region.now c.requires.well_formed c.args.c c.requires.c_bound c.requires.c_value _ c.size-len.result refl c.size-len.ensures c.args.s c.find.result c.find.ensures c.in-At.is;
+      c_value = c.requires.is_vector;
+      bound = several c.args.region.now c.requires.well_formed c.args.c c.requires.c_bound c.requires.is_vector _ c.size-len.result refl c.size-len.ensures c.args.s c.find.result c.find.ensures c.in-Some.is (omega arith);
+      i_bound = place_inside c.args.region.now c.requires.well_formed c.args.c c.requires.c_bound c.requires.is_vector _ c.size-len.result refl c.size-len.ensures c.args.s c.find.result c.find.ensures c.in-Some.is;
     }
 
 pub returns-then-len-eq1 : goal.returns-then-len-eq1
-returns-then-len-eq1 c = closed-left c.args.region.now c.requires.well_formed c.args.c c.requires.c_bound c.requires.c_value _ c.size-len.result refl c.size-len.ensures c.args.s c.find.result c.find.ensures c.in-At.is (omega arith) c.close.ensures
+returns-then-len-eq1 c = closed-left c.args.region.now c.requires.well_formed c.args.c c.requires.c_bound c.requires.is_vector _ c.size-len.result refl c.size-len.ensures c.args.s c.find.result c.find.ensures c.in-Some.is (omega arith) c.close.ensures
 
 pub returns-else-len-eq1 : goal.returns-else-len-eq1
-returns-else-len-eq1 c = took-left c.args.region.now c.requires.well_formed c.args.c c.requires.c_bound c.requires.c_value _ c.size-len.result refl c.size-len.ensures c.args.s c.find.result c.find.ensures c.in-At.is (omega arith) c.take.ensures
+returns-else-len-eq1 c = took-left c.args.region.now c.requires.well_formed c.args.c c.requires.c_bound c.requires.is_vector _ c.size-len.result refl c.size-len.ensures c.args.s c.find.result c.find.ensures c.in-Some.is (omega arith) c.take.ensures
 
-pub returns-in-Nothing : goal.returns-in-Nothing
-returns-in-Nothing c = (nothing-there c.args.region.now c.requires.well_formed c.args.c c.requires.c_bound c.requires.c_value _ c.size-len.result refl c.size-len.ensures c.args.s c.find.result c.find.ensures c.in-Nothing.is, refl)
+pub returns-in_default : goal.returns-in_default
+returns-in_default c = (nothing-there c.args.region.now c.requires.well_formed c.args.c c.requires.c_bound c.requires.is_vector _ c.size-len.result refl c.size-len.ensures c.args.s c.find.result c.find.ensures c.in_default.is, refl)

@@ -9,10 +9,8 @@ overflow_add-more c = omega (arith, c.count-count.ensures, count_small c.args.re
 
 pub settle-requires : goal.settle-requires
 settle-requires c =
-    record {
-      ready = (given-ready c.args.region.now c.requires.well_formed c.args.c c.requires.c_bound c.append.new.strip c.append.ensures.long).0;
-      c_bound = (given-ready c.args.region.now c.requires.well_formed c.args.c c.requires.c_bound c.append.new.strip c.append.ensures.long).1;
-    }
+    let r = given-ready c.args.region.now c.requires.well_formed c.args.c c.requires.c_bound c.append.new.strip c.append.ensures.long in
+    record { ready = r.0; c_bound = r.1 }
 
 pub returns : goal.returns
 returns c =

@@ -16,10 +16,8 @@ overflow_add-count c = omega (arith, c.count-count.ensures, c.gather-n.ensures.f
 
 pub settle-requires : goal.settle-requires
 settle-requires c =
-    record {
-      ready = (given-ready c.args.region.now c.requires.well_formed c.args.c c.requires.c_bound c.gather-n.new.strip c.gather-n.ensures.long).0;
-      c_bound = (given-ready c.args.region.now c.requires.well_formed c.args.c c.requires.c_bound c.gather-n.new.strip c.gather-n.ensures.long).1;
-    }
+    let r = given-ready c.args.region.now c.requires.well_formed c.args.c c.requires.c_bound c.gather-n.new.strip c.gather-n.ensures.long in
+    record { ready = r.0; c_bound = r.1 }
 
 pub returns : goal.returns
 returns c =

@@ -8,17 +8,13 @@ overflow_sub-fewer c = omega (arith, c.count-count.ensures, size-counted c.args.
 
 pub remove_at-requires : goal.remove_at-requires
 remove_at-requires c =
-    record {
-      i_lt_len = (strip-ready c.args.region.now c.requires.well_formed c.args.c c.requires.c_bound c.requires.c_value c.args.i c.size-len.result c.requires.i_bound c.size-len.ensures).0;
-      strip_value = (strip-ready c.args.region.now c.requires.well_formed c.args.c c.requires.c_bound c.requires.c_value c.args.i c.size-len.result c.requires.i_bound c.size-len.ensures).1;
-    }
+    let r = strip-ready c.args.region.now c.requires.well_formed c.args.c c.requires.c_bound c.requires.c_value c.args.i c.size-len.result c.requires.i_bound c.size-len.ensures in
+    record { i_lt_len = r.0; strip_value = r.1 }
 
 pub settle-requires : goal.settle-requires
 settle-requires c =
-    record {
-      ready = (given-ready c.args.region.now c.requires.well_formed c.args.c c.requires.c_bound c.remove_at.new.strip c.remove_at.ensures.long).0;
-      c_bound = (given-ready c.args.region.now c.requires.well_formed c.args.c c.requires.c_bound c.remove_at.new.strip c.remove_at.ensures.long).1;
-    }
+    let r = given-ready c.args.region.now c.requires.well_formed c.args.c c.requires.c_bound c.remove_at.new.strip c.remove_at.ensures.long in
+    record { ready = r.0; c_bound = r.1 }
 
 pub returns : goal.returns
 returns c =

@@ -12,7 +12,7 @@ use Rattle.arena.proofs.Stores.{map-empty, map-some}
 use Rattle.arena.proofs.read.is_empty.Goals as goal
 
 pub loop-i-init : goal.loop-i-init
-loop-i-init c = (omega arith, λ k l. absurd (omega arith))
+loop-i-init c = λ k l. absurd (omega arith)
 
 pub returns-then-word-ne0 : goal.returns-then-word-ne0
 returns-then-word-ne0 c =
@@ -24,11 +24,11 @@ returns-then-word-ne0 c =
     }
 
 pub loop-i-preserved : goal.loop-i-preserved
-loop-i-preserved c = (omega arith, below_more _ _ c.loop-i.invariant.1 (sym c.word.ensures ∙ c.if-word-ne0.false))
+loop-i-preserved c = below_more _ _ c.loop-i.invariant (sym c.word.ensures ∙ c.if-word-ne0.false)
 
 pub returns : goal.returns
 returns c =
     record {
-      yes = λ _. map-empty (drop c.args.slots c.args.arena.now) c.args.n (λ k l. c.loop-i.invariant.1 k (omega arith));
+      yes = λ _. map-empty (drop c.args.slots c.args.arena.now) c.args.n (λ k l. c.loop-i.invariant k (omega arith));
       no = λ e. absurd (true≢false e);
     }

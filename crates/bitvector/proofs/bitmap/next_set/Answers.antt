@@ -1,30 +1,28 @@
--- The invariant `Walk`: no bit is set from `from` to word k, and w is what is left of that word. Assumes nothing.
-use Prim.Native.Nat.{◌+◌, ◌/◌}
+-- At first what is left of the word at `from`, then word by word: no bit is set from `from` to word i. Assumes nothing.
+use Prim.Native.Nat.{◌/◌}
 use native.Mathlib.Omega.{arith}
-use lib.Count.{trailing_le}
-use Rattle.bitvector.proofs.Search.{walk_start, walk-next, walk_end, walk-found}
+use Rattle.bitvector.proofs.Search.{walk_start, walk-next, walk-passed, walk-found, passed-all}
 use Rattle.bitvector.proofs.RankLaws.{bit-out}
 use Rattle.bitvector.proofs.bitmap.next_set.Goals as goal
 
 pub returns-then-k-s : goal.returns-then-k-s
 returns-then-k-s c j h = bit-out c.args.s.now j (omega arith)
 
-pub loop-w-init : goal.loop-w-init
-loop-w-init c =
-    let a = c.args in
-    walk_start a.s.now a.from c.if-k-s.false (c.type_inv.s (a.from / 64)).fits
-
-pub overflow_cast-result : goal.overflow_cast-result
-overflow_cast-result c = omega (arith, trailing_le 64 c.loop-w.w)
-
-pub overflow_add-result : goal.overflow_add-result
-overflow_add-result c = omega (arith, trailing_le 64 c.loop-w.w)
-
 pub returns-then-w-ne0 : goal.returns-then-w-ne0
-returns-then-w-ne0 c = walk-found c.loop-w.invariant c.if-w-ne0.true
+returns-then-w-ne0 c =
+    let a = c.args in
+    walk-found (walk_start a.s.now a.from c.if-k-s.false (c.type_inv.s (a.from / 64)).fits) c.lowest.ensures
 
-pub returns-then-k-s-2 : goal.returns-then-k-s-2
-returns-then-k-s-2 c = walk_end c.loop-w.invariant c.if-w-ne0.false c.if-k-s-2.true
+pub loop-i-init : goal.loop-i-init
+loop-i-init c =
+    let a = c.args in
+    walk-passed (walk_start a.s.now a.from c.if-k-s.false (c.type_inv.s (a.from / 64)).fits) c.if-w-ne0.false
 
-pub loop-w-preserved : goal.loop-w-preserved
-loop-w-preserved c = walk-next c.loop-w.invariant c.if-w-ne0.false c.if-k-s-2.false (c.type_inv.s (c.loop-w.k + 1)).fits
+pub returns-then-s-i-ne0 : goal.returns-then-s-i-ne0
+returns-then-s-i-ne0 c = walk-found (walk-next c.loop-i.invariant c.loop-i-test.true) c.lowest-then-s-i-ne0.ensures
+
+pub loop-i-preserved : goal.loop-i-preserved
+loop-i-preserved c = walk-passed (walk-next c.loop-i.invariant c.loop-i-test.true) c.if-s-i-ne0.false
+
+pub returns : goal.returns
+returns c = passed-all c.loop-i.invariant c.loop-i-test.false

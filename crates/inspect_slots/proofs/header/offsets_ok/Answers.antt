@@ -1,87 +1,21 @@
--- Each answer no is of one offset, and the geometry's offsets are those of the header's numbers. Assumes nothing.
-use mathlib.Core.Path.{sym, ◌∙◌}
-use Rattle.lists.proofs.Answers.{refused, told}
-use Rattle.inspect_slots.proofs.Offsets.{ranks-is, stack_is, records_is, entries-is, node-stack-is, nodes-is, total-is}
+-- The words compared are the geometry's offsets, and these are those of the header's numbers. Assumes nothing.
+use Rattle.std.proofs.Common.{sym, ◌∙◌, arith}
+use Rattle.inspect_slots.proofs.Offsets.{ranks-is, stack_is, records_is, entries-is, node-stack-is, nodes-is, total-is, word-is}
 use Rattle.inspect_slots.proofs.header.offsets_ok.Goals as goal
 
-pub returns-then-not-holds : goal.returns-then-not-holds
-returns-then-not-holds c =
+pub returns-clause-yes : goal.returns-clause-yes
+returns-clause-yes c e =
+    let word = word-is c.args.region.now _ (sym e ∙ c.eq.ensures) in
+    let of = c.requires.geometry_of in
     record {
-      yes = (refused (λ h. c.holds.ensures.no c.if-not-holds.true h.bitmap)).0;
-      no = (refused (λ h. c.holds.ensures.no c.if-not-holds.true h.bitmap)).1;
-    }
-
-pub returns-then-not-holds-2 : goal.returns-then-not-holds-2
-returns-then-not-holds-2 c =
-    record {
-      yes = (refused (λ h. c.holds-2.ensures.no c.if-not-holds-2.true (h.ranks ∙ sym (ranks-is c.requires.geometry_of)))).0;
-      no = (refused (λ h. c.holds-2.ensures.no c.if-not-holds-2.true (h.ranks ∙ sym (ranks-is c.requires.geometry_of)))).1;
-    }
-
-pub returns-then-not-holds-3 : goal.returns-then-not-holds-3
-returns-then-not-holds-3 c =
-    record {
-      yes = (refused (λ h. c.holds-3.ensures.no c.if-not-holds-3.true (h.stack ∙ sym (stack_is c.requires.geometry_of)))).0;
-      no = (refused (λ h. c.holds-3.ensures.no c.if-not-holds-3.true (h.stack ∙ sym (stack_is c.requires.geometry_of)))).1;
-    }
-
-pub returns-then-not-holds-4 : goal.returns-then-not-holds-4
-returns-then-not-holds-4 c =
-    record {
-      yes = (refused (λ h. c.holds-4.ensures.no c.if-not-holds-4.true (h.records ∙ sym (records_is c.requires.geometry_of)))).0;
-      no = (refused (λ h. c.holds-4.ensures.no c.if-not-holds-4.true (h.records ∙ sym (records_is c.requires.geometry_of)))).1;
-    }
-
-pub returns-then-not-holds-5 : goal.returns-then-not-holds-5
-returns-then-not-holds-5 c =
-    record {
-      yes = (refused (λ h. c.holds-5.ensures.no c.if-not-holds-5.true (h.entries ∙ sym (entries-is c.requires.geometry_of)))).0;
-      no = (refused (λ h. c.holds-5.ensures.no c.if-not-holds-5.true (h.entries ∙ sym (entries-is c.requires.geometry_of)))).1;
-    }
-
-pub returns-then-not-holds-6 : goal.returns-then-not-holds-6
-returns-then-not-holds-6 c =
-    record {
-      yes = (refused (λ h. c.holds-6.ensures.no c.if-not-holds-6.true (h.node-stack ∙ sym (node-stack-is c.requires.geometry_of)))).0;
-      no = (refused (λ h. c.holds-6.ensures.no c.if-not-holds-6.true (h.node-stack ∙ sym (node-stack-is c.requires.geometry_of)))).1;
-    }
-
-pub returns-then-not-holds-7 : goal.returns-then-not-holds-7
-returns-then-not-holds-7 c =
-    record {
-      yes = (refused (λ h. c.holds-7.ensures.no c.if-not-holds-7.true (h.nodes ∙ sym (nodes-is c.requires.geometry_of)))).0;
-      no = (refused (λ h. c.holds-7.ensures.no c.if-not-holds-7.true (h.nodes ∙ sym (nodes-is c.requires.geometry_of)))).1;
-    }
-
-pub returns : goal.returns
-returns c =
-    record {
-      yes = (told _ (c.holds-8.ensures.yes, c.holds-8.ensures.no)
-          (λ e. record {
-            form-is = c.requires.region_value;
-            ranges = c.requires.region_value_2;
-            bitmap = c.holds.ensures.yes c.if-not-holds.false;
-            ranks = c.holds-2.ensures.yes c.if-not-holds-2.false ∙ ranks-is c.requires.geometry_of;
-            stack = c.holds-3.ensures.yes c.if-not-holds-3.false ∙ stack_is c.requires.geometry_of;
-            records = c.holds-4.ensures.yes c.if-not-holds-4.false ∙ records_is c.requires.geometry_of;
-            entries = c.holds-5.ensures.yes c.if-not-holds-5.false ∙ entries-is c.requires.geometry_of;
-            node-stack = c.holds-6.ensures.yes c.if-not-holds-6.false ∙ node-stack-is c.requires.geometry_of;
-            nodes = c.holds-7.ensures.yes c.if-not-holds-7.false ∙ nodes-is c.requires.geometry_of;
-            total-length = e ∙ total-is c.requires.geometry_of;
-          })
-          (λ h. h.total-length ∙ sym (total-is c.requires.geometry_of))).0;
-      no = (told _ (c.holds-8.ensures.yes, c.holds-8.ensures.no)
-          (λ e. record {
-            form-is = c.requires.region_value;
-            ranges = c.requires.region_value_2;
-            bitmap = c.holds.ensures.yes c.if-not-holds.false;
-            ranks = c.holds-2.ensures.yes c.if-not-holds-2.false ∙ ranks-is c.requires.geometry_of;
-            stack = c.holds-3.ensures.yes c.if-not-holds-3.false ∙ stack_is c.requires.geometry_of;
-            records = c.holds-4.ensures.yes c.if-not-holds-4.false ∙ records_is c.requires.geometry_of;
-            entries = c.holds-5.ensures.yes c.if-not-holds-5.false ∙ entries-is c.requires.geometry_of;
-            node-stack = c.holds-6.ensures.yes c.if-not-holds-6.false ∙ node-stack-is c.requires.geometry_of;
-            nodes = c.holds-7.ensures.yes c.if-not-holds-7.false ∙ nodes-is c.requires.geometry_of;
-            total-length = e ∙ total-is c.requires.geometry_of;
-          })
-          (λ h. h.total-length ∙ sym (total-is c.requires.geometry_of))).1;
+      form-is = c.requires.form_is;
+      ranges = c.requires.good_ranges;
+      bitmap = word 0 (omega arith);
+      ranks = word 1 (omega arith) ∙ ranks-is of;
+      stack = word 2 (omega arith) ∙ stack_is of;
+      records = word 3 (omega arith) ∙ records_is of;
+      entries = word 4 (omega arith) ∙ entries-is of;
+      node-stack = word 5 (omega arith) ∙ node-stack-is of;
+      nodes = word 6 (omega arith) ∙ nodes-is of;
+      total-length = word 7 (omega arith) ∙ total-is of;
     }

@@ -1,6 +1,7 @@
 -- Each turn takes the lowest bit that is left of a word, whose rank is the number of those before it, or goes on to the next word. Assumes nothing.
 use native.Mathlib.Omega.{arith}
-use Rattle.lists.proofs.Answers.{refused, granted}
+use borrow.Author.Tests.{eqb-true, eqb-false}
+use Rattle.lists.proofs.Answers.{refused}
 use Rattle.inspect_slots.proofs.Placing.{bitmap-small, bitmap-some, look-start, look-word, look-yes, look-no, look-past, look-not, look-taken}
 use Rattle.inspect_slots.proofs.ranks.all_borne.Goals as goal
 
@@ -9,12 +10,6 @@ bounds-bitmap-0 c = omega (arith, bitmap-some c.args.p)
 
 pub loop-left-init : goal.loop-left-init
 loop-left-init c = look-start _ _ _ _ _ _ c.requires.bitmap_len.0
-
-pub overflow_add-j : goal.overflow_add-j
-overflow_add-j c = omega (arith, c.loop-left.invariant.scan.inside)
-
-pub loop-left-smaller-then-left-eq0 : goal.loop-left-smaller-then-left-eq0
-loop-left-smaller-then-left-eq0 c = omega arith
 
 pub loop-left-preserved-then-left-eq0 : goal.loop-left-preserved-then-left-eq0
 loop-left-preserved-then-left-eq0 c = look-word c.loop-left.invariant c.if-left-eq0.true c.if-j-bitmap.false
@@ -39,28 +34,13 @@ returns-then-not-borne_at c =
       no = (refused (look-not c.loop-left.invariant _ c.lowest-b.ensures (omega arith) (c.borne_at.ensures.no c.if-not-borne_at.true))).1;
     }
 
-pub without-left-requires : goal.without-left-requires
-without-left-requires c = c.lowest-b.ensures.small
-
-pub overflow_add-rank : goal.overflow_add-rank
-overflow_add-rank c = omega (arith, (c.borne_at.ensures.yes c.if-not-borne_at.false).in_table)
-
-pub loop-left-smaller : goal.loop-left-smaller
-loop-left-smaller c = omega (arith, (c.borne_at.ensures.yes c.if-not-borne_at.false).in_table)
-
 pub loop-left-preserved : goal.loop-left-preserved
 loop-left-preserved c = look-taken c.loop-left.invariant _ c.lowest-b.ensures _ (omega arith) (c.borne_at.ensures.yes c.if-not-borne_at.false) c.without-left.ensures.here c.without-left.ensures.other
 
-pub returns-then-rank-k : goal.returns-then-rank-k
-returns-then-rank-k c =
-    record {
-      yes = (refused (look-no c.loop-left.invariant c.if-left-eq0.true c.if-j-bitmap.true (λ q. omega arith))).0;
-      no = (refused (look-no c.loop-left.invariant c.if-left-eq0.true c.if-j-bitmap.true (λ q. omega arith))).1;
-    }
-
 pub returns : goal.returns
 returns c =
+    let L = c.loop-left.invariant in
     record {
-      yes = (granted (look-yes c.loop-left.invariant c.if-left-eq0.true c.if-j-bitmap.true (omega arith))).0;
-      no = (granted (look-yes c.loop-left.invariant c.if-left-eq0.true c.if-j-bitmap.true (omega arith))).1;
+      yes = λ e. look-yes L c.if-left-eq0.true c.if-j-bitmap.true (eqb-true _ _ e);
+      no = λ e. look-no L c.if-left-eq0.true c.if-j-bitmap.true (eqb-false _ _ e);
     }

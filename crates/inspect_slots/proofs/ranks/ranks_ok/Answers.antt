@@ -1,32 +1,16 @@
 -- The two parts are together what is asked, and each follows from it. Assumes nothing.
-use Rattle.lists.proofs.Answers.{refused, told}
 use Rattle.inspect_slots.proofs.Placing.{placed_of, borne-of, used-of, too_many}
 use Rattle.inspect_slots.proofs.ranks.ranks_ok.Goals as goal
 
-pub returns-then-k-slots : goal.returns-then-k-slots
-returns-then-k-slots c =
-    let a = c.args in
-    record {
-      yes = (refused (too_many a.p a.slots a.k a.bitmap.now a.ranks.now a.records.now c.if-k-slots.true)).0;
-      no = (refused (too_many a.p a.slots a.k a.bitmap.now a.ranks.now a.records.now c.if-k-slots.true)).1;
-    }
+pub returns-then-k-slots-clause-no : goal.returns-then-k-slots-clause-no
+returns-then-k-slots-clause-no c e = let a = c.args in too_many a.p a.slots a.k a.bitmap.now a.ranks.now a.records.now c.if-k-slots.true
 
-pub returns-then-not-all_borne : goal.returns-then-not-all_borne
-returns-then-not-all_borne c =
-    let a = c.args in
-    record {
-      yes = (refused (λ pl. c.all_borne.ensures.no c.if-not-all_borne.true (borne-of a.p a.slots a.k a.bitmap.now a.ranks.now a.records.now pl))).0;
-      no = (refused (λ pl. c.all_borne.ensures.no c.if-not-all_borne.true (borne-of a.p a.slots a.k a.bitmap.now a.ranks.now a.records.now pl))).1;
-    }
+pub returns-then-all_borne-clause-yes : goal.returns-then-all_borne-clause-yes
+returns-then-all_borne-clause-yes c e =
+    let a = c.args in placed_of a.p a.slots a.k a.bitmap.now a.ranks.now a.records.now (c.all_borne.ensures.yes c.if-all_borne.true) (c.in_use.ensures.yes e)
 
-pub returns : goal.returns
-returns c =
-    let a = c.args in
-    record {
-      yes = (told _ (c.in_use.ensures.yes, c.in_use.ensures.no)
-          (placed_of a.p a.slots a.k a.bitmap.now a.ranks.now a.records.now (c.all_borne.ensures.yes c.if-not-all_borne.false))
-          (used-of a.p a.slots a.k a.bitmap.now a.ranks.now a.records.now)).0;
-      no = (told _ (c.in_use.ensures.yes, c.in_use.ensures.no)
-          (placed_of a.p a.slots a.k a.bitmap.now a.ranks.now a.records.now (c.all_borne.ensures.yes c.if-not-all_borne.false))
-          (used-of a.p a.slots a.k a.bitmap.now a.ranks.now a.records.now)).1;
-    }
+pub returns-then-all_borne-clause-no : goal.returns-then-all_borne-clause-no
+returns-then-all_borne-clause-no c e placed = let a = c.args in c.in_use.ensures.no e (used-of a.p a.slots a.k a.bitmap.now a.ranks.now a.records.now placed)
+
+pub returns-else-all_borne-clause-no : goal.returns-else-all_borne-clause-no
+returns-else-all_borne-clause-no c e placed = let a = c.args in c.all_borne.ensures.no e (borne-of a.p a.slots a.k a.bitmap.now a.ranks.now a.records.now placed)

@@ -1,12 +1,8 @@
 -- Each turn adds one slot more, at most 2^40 each. Assumes nothing.
-use Prim.Native.Nat.{◌-◌, ◌≤◌}
 use mathlib.Core.List.{[]}
 use Rattle.inspect_slots.specs.Slots.{slot_seen}
 use Rattle.inspect_slots.proofs.Lengths.{Added}
 use Rattle.inspect_slots.proofs.sizes.sizes.Given as goal
 
 abbrev pub invariant-loop-c : goal.invariant-loop-c
-invariant-loop-c l = (l.c ≤ l.slots) × Added (slot_seen [] [] [] l.records) l.c l.total
-
-abbrev pub decreases-loop-c : goal.decreases-loop-c
-decreases-loop-c l = l.slots - l.c
+invariant-loop-c l = Added (slot_seen [] [] [] l.records) l.c l.total

@@ -11,19 +11,17 @@ pub contains_each-requires : goal.contains_each-requires
 contains_each-requires c =
     let a = c.args in
     let i = c.loop-i.i in
-    let n = c.at_most_64-n.result in
-    let few : n ≤ 64 = c.at_most_64-n.ensures.2 in
+    let n = c.min-n.result in
+    let few : n ≤ 64 = omega (arith, c.min-n.ensures) in
     let room : i + n ≤ length a.suffixes.now = search rules in
     let asked = part-long i n a.suffixes.now room in
     let answered = part-long i n c.loop-i.answers (omega (arith, c.loop-i.invariant.1, c.requires.answers_len)) in
     let rooted = roots-long a.root n few in
     record {
       tries = c.requires.kept.arena.tries;
-      le_b = c.requires.measured.some;
-      b_bound = c.requires.measured.few;
       suffixes_len_bound = omega arith;
       roots_len = rooted ∙ sym asked;
       suffixes_in_bounds = omega arith;
-      by_index = λ j l _. part-roots (nodes_in a.slots a.arena.now) a.slots a.root n c.requires.kept.root few j l;
-      by_index_2 = part-narrow a.b i (i + n) a.suffixes.now c.requires.narrow room;
+      by_index = part-roots a.root n few (nodes_in a.shape.slots a.arena.now) a.shape.slots c.requires.kept.root;
+      by_index_2 = part-narrow a.shape.b i (i + n) a.suffixes.now c.requires.narrow room;
     }

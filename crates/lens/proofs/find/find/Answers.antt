@@ -1,6 +1,5 @@
 -- What a look met is p's container; else p's bit says whether it has a rank. Assumes nothing.
-use Rattle.std.proofs.Common.{sym, ◌∙◌, subst, eqb-true}
-use Rattle.lens.specs.Found.{MetAs}
+use Rattle.std.proofs.Common.{sym, ◌∙◌, eqb-true}
 use Rattle.lens.proofs.Found.{nowhere}
 use Rattle.lens.proofs.find.find.Goals as goal
 
@@ -15,8 +14,5 @@ slot_of-requires c =
       p_value = eqb-true _ 1 (sym c.bit.ensures ∙ c.if-not-bit.false);
     }
 
-pub returns-in-At : goal.returns-in-At
-returns-in-At c = subst (MetAs c.args.region.now c.args.p) c.in-At.is c.meet.ensures
-
-pub returns-else-not-bit : goal.returns-else-not-bit
-returns-else-not-bit c = (eqb-true _ 1 (sym c.bit.ensures ∙ c.if-not-bit.false), c.slot_of.ensures)
+pub returns : goal.returns
+returns c = (eqb-true _ 1 (sym c.bit.ensures ∙ c.if-not-bit.false), c.slot_of.ensures)

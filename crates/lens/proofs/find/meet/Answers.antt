@@ -29,4 +29,4 @@ pub returns-then-kind-ne0 : goal.returns-then-kind-ne0
 returns-then-kind-ne0 c =
     at-hint c.args.region.now c.requires c.args.p c.slot-c.result c.prefix.result c.kind.result
     (rw c.slot-c.ensures (slot_small c.requires c.args.m (omega (arith, c.k.ensures, c.if-m-k.false))))
-    c.prefix.ensures c.kind.ensures (omega (arith, c.if-prefix-p.false)) (λ z. omega (arith, c.if-kind-ne0.true))
+    c.prefix.ensures c.kind.ensures (omega (arith, c.if-prefix-p.true)) (λ z. omega (arith, c.if-kind-ne0.true))

@@ -1,27 +1,16 @@
--- A prefix is looked at modulo 2^P, so any word will do; none before i is set. Assumes nothing.
-use Rattle.std.proofs.Common.{arith, rules}
-use Rattle.lens.proofs.Ranks.{P-small, S-small, in_span}
-use Rattle.lens.proofs.Found.{none_more}
+-- A prefix is looked at modulo 2^P, so any word will do. Assumes nothing.
+use Rattle.std.proofs.Common.{◌≡◌, ℕ, ◌%◌, ◌^◌, arith, rules}
+use Rattle.std.proofs.lemmas.Iterator.{cases_from_any, YieldsList-from_slice}
+use Rattle.model.specs.Words.{prefix_of}
+use Rattle.region.specs.Areas.{numbers}
+use Rattle.region.specs.Seen.{seen}
+use Rattle.lens.proofs.Found.{prefix-clear}
 use Rattle.lens.proofs.hints.any_set.Goals as goal
 
-pub overflow_shl-end : goal.overflow_shl-end
-overflow_shl-end c = omega (arith, c.p-end.ensures, P-small c.requires)
-
-pub loop-i-init : goal.loop-i-init
-loop-i-init c j h = absurd (omega arith)
-
-pub overflow_shr-words : goal.overflow_shr-words
-overflow_shr-words c = omega (arith, c.s-shift.ensures, S-small c.requires)
-
-pub bit-requires : goal.bit-requires
-bit-requires c =
-    record {
-      ready = c.requires.ready;
-      q_bound = in_span c.requires c.p-end.result _ c.p-end.ensures;
-    }
-
-pub loop-i-preserved : goal.loop-i-preserved
-loop-i-preserved c = none_more c.args.region.now c.requires c.args.words.now c.loop-i.i c.loop-i.invariant c.p-end.result c.s-shift.result c.p-end.ensures c.s-shift.ensures c.bit.result c.bit.ensures (search rules)
-
 pub returns : goal.returns
-returns c e j h = c.loop-i.invariant j (omega arith)
+returns c e i h =
+    let l = c.args.region.now in
+    let Clear = λ (w : ℕ). (seen (numbers l) l).bit (prefix_of (numbers l).S w % 2 ^ (numbers l).P) ≡ 0 in
+    let clear = prefix-clear l c.requires c.p.result c.s-shift.result c.p.ensures c.s-shift.ensures in
+    let cases = cases_from_any _ _ _ (λ _. Unit {0}) Clear c.any.ensures.ran (YieldsList-from_slice c.args.words.now cc) (λ x q k. tt) (λ x q k. (search rules, clear x.now (search rules))) in
+    (rw e at cases) i 0 (omega arith) h

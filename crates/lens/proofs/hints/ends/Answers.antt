@@ -30,9 +30,3 @@ prefix-high-requires c =
       ready = c.requires.well_formed.ready;
       c_bound = rw c.slot-2.ensures (slot_small c.requires.well_formed _ (omega (arith, c.requires.k_value, c.requires.k_nonzero)));
     }
-
-pub returns-then-low-high : goal.returns-then-low-high
-returns-then-low-high c = omega (arith, c.if-low-high.true)
-
-pub returns : goal.returns
-returns c = omega arith

@@ -1,6 +1,6 @@
 -- A place is held below k where it is looked at. Assumes nothing.
 use Rattle.std.proofs.Common.{arith}
-use Rattle.lens.proofs.Ranks.{S-small, place-small, slot_small}
+use Rattle.lens.proofs.Ranks.{place-small, slot_small}
 use Rattle.lens.proofs.hints.look.Goals as goal
 
 pub slot-requires : goal.slot-requires
@@ -16,6 +16,3 @@ prefix-q-requires c =
       ready = c.requires.well_formed.ready;
       c_bound = rw c.slot.ensures (slot_small c.requires.well_formed c.clamped-m.result (omega (arith, c.clamped-m.ensures, c.requires.k_value)));
     }
-
-pub overflow_shr-words : goal.overflow_shr-words
-overflow_shr-words c = omega (arith, c.s-shift.ensures, S-small c.requires.well_formed)

@@ -2,5 +2,5 @@
 use Rattle.lens.proofs.Ranks.{search-start}
 use Rattle.lens.proofs.rank.first_window.Goals as goal
 
-pub returns : goal.returns
-returns c = search-start c.requires.well_formed c.args.p c.k-k.result c.requires.p_bound c.k-k.ensures
+pub returns-else-k-gt-MANY : goal.returns-else-k-gt-MANY
+returns-else-k-gt-MANY c = search-start c.requires.well_formed c.args.p c.k-k.result c.requires.p_bound c.k-k.ensures

@@ -3,19 +3,6 @@ use Rattle.std.proofs.Common.{◌+◌, ◌-◌, ◌/◌, arith}
 use Rattle.lens.proofs.Ranks.{k-small, place-small, slot_small, search-up, search-down}
 use Rattle.lens.proofs.rank.rank_of.Goals as goal
 
-pub first_window-w-requires : goal.first_window-w-requires
-first_window-w-requires c =
-    record {
-      well_formed = c.requires.well_formed;
-      p_bound = c.requires.p_bound;
-    }
-
-pub loop-low-init : goal.loop-low-init
-loop-low-init c = c.first_window-w.ensures
-
-pub overflow_sub-middle : goal.overflow_sub-middle
-overflow_sub-middle c = omega arith
-
 pub overflow_add-middle : goal.overflow_add-middle
 overflow_add-middle c = omega (arith, c.loop-low.invariant.in_use, k-small c.requires.well_formed)
 
@@ -36,17 +23,8 @@ prefix-requires c =
 pub overflow_add-low : goal.overflow_add-low
 overflow_add-low c = omega (arith, c.loop-low.invariant.in_use, k-small c.requires.well_formed)
 
-pub loop-low-smaller-then-prefix-p : goal.loop-low-smaller-then-prefix-p
-loop-low-smaller-then-prefix-p c = omega arith
-
 pub loop-low-preserved-then-prefix-p : goal.loop-low-preserved-then-prefix-p
 loop-low-preserved-then-prefix-p c = search-up c.requires.well_formed c.loop-low.invariant (c.loop-low.low + (c.loop-low.high - c.loop-low.low) / 2) (omega arith) c.slot-c.ensures c.prefix.ensures c.if-prefix-p.true
 
-pub loop-low-smaller : goal.loop-low-smaller
-loop-low-smaller c = omega arith
-
 pub loop-low-preserved : goal.loop-low-preserved
 loop-low-preserved c = search-down c.requires.well_formed c.loop-low.invariant (c.loop-low.low + (c.loop-low.high - c.loop-low.low) / 2) (omega arith) c.slot-c.ensures c.prefix.ensures c.if-prefix-p.false
-
-pub returns : goal.returns
-returns c = omega arith

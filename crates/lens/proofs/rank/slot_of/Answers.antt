@@ -5,13 +5,6 @@ use Rattle.region.specs.Seen.{seen}
 use Rattle.lens.proofs.Ranks.{place-small, rank-in-use}
 use Rattle.lens.proofs.rank.slot_of.Goals as goal
 
-pub rank_of-requires : goal.rank_of-requires
-rank_of-requires c =
-    record {
-      well_formed = c.requires.well_formed;
-      p_bound = c.requires.p_bound;
-    }
-
 pub slot-requires : goal.slot-requires
 slot-requires c =
     record {

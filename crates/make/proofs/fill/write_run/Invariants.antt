@@ -1,7 +1,7 @@
 -- `write_run` meets its contract: the zeros are k blank blocks, and each store turns the next of them into its marked one. Assumes nothing.
 use mathlib.Core.Path.{◌≡◌}
 use mathlib.Core.List.{List}
-use Prim.Native.Nat.{ℕ, ◌+◌, ◌-◌, ◌*◌, ◌≤◌}
+use Prim.Native.Nat.{ℕ, ◌+◌, ◌-◌, ◌*◌}
 use lib.ListN.{length}
 use Rattle.lists.specs.Lists.{blocks}
 use Rattle.region.specs.Fresh.{zeros}
@@ -17,7 +17,4 @@ abbrev pub bare : ℕ → ℕ → List ℕ
 bare w k = blocks (λ j. zeros w) k
 
 abbrev pub invariant-loop-i : goal.invariant-loop-i
-invariant-loop-i l = (l.i ≤ l.k) × (length l.s ≡ l.w * l.k) × (l.s ≡ toward (run l.w l.at l.k l.top) (bare l.w l.k) (l.w * l.i))
-
-abbrev pub decreases-loop-i : goal.decreases-loop-i
-decreases-loop-i l = l.k - l.i
+invariant-loop-i l = (length l.s ≡ l.w * l.k) × (l.s ≡ toward (run l.w l.at l.k l.top) (bare l.w l.k) (l.w * l.i))

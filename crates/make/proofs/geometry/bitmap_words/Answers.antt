@@ -13,10 +13,6 @@ exact p h = shl_exact 1 p 64 (lit< tt) (omega arith)
 top : (p : ℕ) → p ≤ 24 → 2 ^ p ≤ 16777216
 top p h = pow_mono h
 
-pub returns-then-words-lt1 : goal.returns-then-words-lt1
+pub returns : goal.returns
 unfolding bitmap_words
-returns-then-words-lt1 c = omega (arith, exact c.args.p (omega arith))
-
-pub returns-else-words-lt1 : goal.returns-else-words-lt1
-unfolding bitmap_words
-returns-else-words-lt1 c = omega (arith, exact c.args.p (omega arith), top c.args.p (omega arith))
+returns c = omega (arith, exact c.args.p (omega arith), top c.args.p (omega arith), c.max.ensures)

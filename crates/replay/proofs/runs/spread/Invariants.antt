@@ -1,9 +1,6 @@
--- Each turn stores one more of 4,096 words, and the place stays within the runs.
-use Rattle.std.proofs.Common.{length, ◌-◌, ◌≤◌}
+-- Each run that fits leaves no more words than a row has.
+use Rattle.std.proofs.Common.{◌≤◌, vec_len}
 use Rattle.replay.proofs.runs.spread.Given as goal
 
-abbrev pub invariant-loop-many : goal.invariant-loop-many
-invariant-loop-many l = (l.many ≤ 4096) × (l.at ≤ length l.runs)
-
-abbrev pub decreases-loop-many : goal.decreases-loop-many
-decreases-loop-many l = 4096 - l.many
+abbrev pub invariant-loop-run : goal.invariant-loop-run
+invariant-loop-run l = vec_len l.words ≤ 4096

@@ -5,6 +5,3 @@ use Rattle.set_ops.proofs.afresh.free_each.Given as goal
 
 abbrev pub invariant-loop-i : goal.invariant-loop-i
 invariant-loop-i l = (l.i ≤ l.n) × (length l.s ≡ 264 * l.n) × ((j : ℕ) → j < l.i → (nodes_of l.s).level1 j ≡ 0) × ((j : ℕ) → j < l.i → (nodes_of l.s).parent j ≡ l.n - 1 - j)
-
-abbrev pub decreases-loop-i : goal.decreases-loop-i
-decreases-loop-i l = l.n - l.i

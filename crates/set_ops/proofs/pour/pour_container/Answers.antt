@@ -24,5 +24,5 @@ pour_trie-requires c =
       alike = c.requires.alike;
       alike_2 = c.requires.alike_2;
       c_bound = c.requires.c_bound;
-      c_value = kind-two c.args.src.now c.requires.well_formed c.args.c c.requires.c_bound c.kind.result c.kind.ensures c.requires.c_nonzero c.if-kind-eq1.false;
+      c_value = kind-two c.args.source.set.now c.requires.well_formed c.args.c c.requires.c_bound c.kind.result c.kind.ensures c.requires.c_nonzero c.if-kind-eq1.false;
     }

@@ -8,8 +8,8 @@ use Rattle.set_ops.specs.Poured.{wanted}
 use Rattle.set_ops.proofs.PourChunks.{Going}
 use Rattle.set_ops.proofs.pour.pour_trie.Given as goal
 
-abbrev pub invariant-loop-chunk : goal.invariant-loop-chunk
-invariant-loop-chunk l = Going (wanted (reading l.other) l.common l.own) (numbers l.src).S ((seen (numbers l.src) l.src).prefix l.c) (suffixes (numbers l.src) (seen (numbers l.src) l.src) l.c) l.initial.dest l.dest l.chunk l.from
+abbrev pub invariant-loop-from : goal.invariant-loop-from
+invariant-loop-from l = Going (wanted (reading l.source.other.now) l.source.wanted) (numbers l.source.set.now).S ((seen (numbers l.source.set.now) l.source.set.now).prefix l.c) (suffixes (numbers l.source.set.now) (seen (numbers l.source.set.now) l.source.set.now) l.c) l.initial.dest l.dest l.chunk l.from
 
-abbrev pub decreases-loop-chunk : goal.decreases-loop-chunk
-decreases-loop-chunk l = length (not_below l.from (suffixes (numbers l.src) (seen (numbers l.src) l.src) l.c))
+abbrev pub decreases-loop-from : goal.decreases-loop-from
+decreases-loop-from l = length (not_below l.from (suffixes (numbers l.source.set.now) (seen (numbers l.source.set.now) l.source.set.now) l.c))

@@ -1,74 +1,77 @@
 -- At the slot if it is known; else the first opens it. Assumes nothing.
-use mathlib.Core.Bool.{false≢true}
+use Rattle.std.proofs.Common.{ℕ, true, false, refl, subst}
+use Rattle.std.specs.Prelude.{IfSome, Option, is_ok}
+use Rattle.region.specs.Areas.{numbers}
+use Rattle.region.specs.Seen.{seen}
+use Rattle.region.specs.WellFormed.{Bears}
+use Rattle.std.proofs.lemmas.Result.{err_from_is_err_and}
 use Rattle.set_ops.proofs.Places.{join-ready}
+use Rattle.set_ops.proofs.Pouring.{told-err, told-ok}
 use Rattle.set_ops.proofs.TakeWhole.{behind, known-asks, known-done, known-stays, none_done, first-ready, first-halts, slot-ready, rest-asks, whole-done, whole-stays}
 use Rattle.set_ops.proofs.take.put_under.Goals as goal
 
-pub put_all-ok-requires : goal.put_all-ok-requires
-put_all-ok-requires c =
-    record {
-      well_formed = (known-asks c.requires.well_formed c.args.p c.requires.p_bound c.args.suffixes.now c.requires.all_small c.args.c (c.requires.bears c.if-known.true)).0;
-      c_bound = (known-asks c.requires.well_formed c.args.p c.requires.p_bound c.args.suffixes.now c.requires.all_small c.args.c (c.requires.bears c.if-known.true)).1.0;
-      c_nonzero = (known-asks c.requires.well_formed c.args.p c.requires.p_bound c.args.suffixes.now c.requires.all_small c.args.c (c.requires.bears c.if-known.true)).1.1.0;
-      all_small = (known-asks c.requires.well_formed c.args.p c.requires.p_bound c.args.suffixes.now c.requires.all_small c.args.c (c.requires.bears c.if-known.true)).1.1.1;
-    }
+pub put_all-requires : goal.put_all-requires
+put_all-requires c =
+    let bears = subst (λ (o : Option ℕ). IfSome o (λ (x : ℕ). Bears (numbers c.args.dest.now) (seen (numbers c.args.dest.now) c.args.dest.now) c.args.p x)) c.in-Some.is c.requires.bears in
+    let asks = known-asks c.requires.well_formed c.args.p c.requires.p_bound c.args.suffixes.now c.requires.all_small c.in-Some.c bears in
+    record { well_formed = asks.0; c_bound = asks.1.0; c_nonzero = asks.1.1.0; all_small = asks.1.1.1 }
 
-pub returns-then-known : goal.returns-then-known
-returns-then-known c =
-    record {
-      poured = known-done c.requires.well_formed c.args.p c.requires.p_bound c.args.suffixes.now c.requires.all_small c.args.c (c.requires.bears c.if-known.true) c.put_all-ok.result c.put_all-ok.new.dest c.put_all-ok.ensures.poured;
-      stays = λ e k. known-stays c.requires.well_formed c.args.p c.requires.p_bound c.args.suffixes.now c.requires.all_small c.args.c (c.requires.bears c.if-known.true) c.put_all-ok.result c.put_all-ok.new.dest c.put_all-ok.ensures.stays e;
-    }
+pub returns-in_err-put_all : goal.returns-in_err-put_all
+returns-in_err-put_all c =
+    let bears = subst (λ (o : Option ℕ). IfSome o (λ (x : ℕ). Bears (numbers c.args.dest.now) (seen (numbers c.args.dest.now) c.args.dest.now) c.args.p x)) c.in-Some.is c.requires.bears in
+    let done = known-done c.requires.well_formed c.args.p c.requires.p_bound c.args.suffixes.now c.requires.all_small c.in-Some.c bears false c.put_all.new.dest c.in_err-put_all.ensures.poured in
+    let p = err_from_is_err_and c.from_residual.result c.from_residual.ensures.1 in
+    rw p.1 record { poured = done; stays = tt }
+
+pub returns-in-Some : goal.returns-in-Some
+returns-in-Some c =
+    let bears = subst (λ (o : Option ℕ). IfSome o (λ (x : ℕ). Bears (numbers c.args.dest.now) (seen (numbers c.args.dest.now) c.args.dest.now) c.args.p x)) c.in-Some.is c.requires.bears in
+    let done = known-done c.requires.well_formed c.args.p c.requires.p_bound c.args.suffixes.now c.requires.all_small c.in-Some.c bears true c.put_all.new.dest c.in_ok-put_all.ensures.poured in
+    record { poured = done; stays = known-stays c.requires.well_formed c.args.p c.requires.p_bound c.args.suffixes.now c.requires.all_small c.in-Some.c bears true c.put_all.new.dest c.in_ok-put_all.ensures.stays refl }
 
 pub returns-then-suffixes-lt1 : goal.returns-then-suffixes-lt1
 returns-then-suffixes-lt1 c =
     record {
       poured = none_done c.requires.well_formed c.args.p c.requires.p_bound c.args.suffixes.now c.requires.all_small c.if-suffixes-lt1.true;
-      stays = λ e k. absurd (false≢true k);
+      stays = tt;
     }
 
 pub joined-w-requires : goal.joined-w-requires
 joined-w-requires c =
-    record {
-      p_bound = (join-ready c.args.dest.now c.requires.well_formed c.args.p c.requires.p_bound c.args.suffixes.now c.requires.all_small c.s-bits.result c.s-bits.ensures 0 c.if-suffixes-lt1.false).0;
-      bits_bound = (join-ready c.args.dest.now c.requires.well_formed c.args.p c.requires.p_bound c.args.suffixes.now c.requires.all_small c.s-bits.result c.s-bits.ensures 0 c.if-suffixes-lt1.false).1.0;
-      s_bound = (join-ready c.args.dest.now c.requires.well_formed c.args.p c.requires.p_bound c.args.suffixes.now c.requires.all_small c.s-bits.result c.s-bits.ensures 0 c.if-suffixes-lt1.false).1.1;
-    }
+    let ready = join-ready c.args.dest.now c.requires.well_formed c.args.p c.requires.p_bound c.args.suffixes.now c.requires.all_small c.s-bits.result c.s-bits.ensures 0 c.if-suffixes-lt1.false in
+    record { p_bound = ready.0; bits_bound = ready.1.0; s_bound = ready.1.1 }
 
 pub put-requires : goal.put-requires
 put-requires c =
-    record {
-      well_formed = (first-ready c.requires.well_formed c.args.p c.requires.p_bound c.args.suffixes.now c.requires.all_small c.if-suffixes-lt1.false c.s-bits.result c.s-bits.ensures c.joined-w.result c.joined-w.ensures).0;
-      w_bound = (first-ready c.requires.well_formed c.args.p c.requires.p_bound c.args.suffixes.now c.requires.all_small c.if-suffixes-lt1.false c.s-bits.result c.s-bits.ensures c.joined-w.result c.joined-w.ensures).1;
+    let ready = first-ready c.requires.well_formed c.args.p c.requires.p_bound c.args.suffixes.now c.requires.all_small c.if-suffixes-lt1.false c.s-bits.result c.s-bits.ensures c.joined-w.result c.joined-w.ensures in
+    record { well_formed = ready.0; w_bound = ready.1 }
+
+pub returns-in_err-put : goal.returns-in_err-put
+returns-in_err-put c =
+    let p = err_from_is_err_and c.from_residual-in_err-put.result c.from_residual-in_err-put.ensures.1 in
+    rw p.1 record {
+      poured = first-halts c.requires.well_formed c.args.p c.requires.p_bound c.args.suffixes.now c.requires.all_small c.if-suffixes-lt1.false c.s-bits.result c.s-bits.ensures c.joined-w.result c.joined-w.ensures (is_ok c.put.result) c.put.new.dest c.put.ensures (told-err c.in_err-put.was);
+      stays = tt;
     }
 
-pub returns-then-not-put : goal.returns-then-not-put
-returns-then-not-put c =
-    record {
-      poured = first-halts c.requires.well_formed c.args.p c.requires.p_bound c.args.suffixes.now c.requires.all_small c.if-suffixes-lt1.false c.s-bits.result c.s-bits.ensures c.joined-w.result c.joined-w.ensures c.put.result c.put.new.dest c.put.ensures c.if-not-put.true;
-      stays = λ e k. absurd (false≢true e);
-    }
+pub slot_of-c-requires : goal.slot_of-c-requires
+slot_of-c-requires c =
+    let ready = slot-ready c.requires.well_formed c.args.p c.requires.p_bound c.args.suffixes.now c.requires.all_small c.if-suffixes-lt1.false c.s-bits.result c.s-bits.ensures c.joined-w.result c.joined-w.ensures (is_ok c.put.result) c.put.new.dest c.put.ensures (told-ok c.in_ok-put.was) in
+    record { well_formed = ready.0; p_bound = ready.1.0; p_value = ready.1.1 }
 
-pub slot_of-at-requires : goal.slot_of-at-requires
-slot_of-at-requires c =
-    record {
-      well_formed = (slot-ready c.requires.well_formed c.args.p c.requires.p_bound c.args.suffixes.now c.requires.all_small c.if-suffixes-lt1.false c.s-bits.result c.s-bits.ensures c.joined-w.result c.joined-w.ensures c.put.result c.put.new.dest c.put.ensures c.if-not-put.false).0;
-      p_bound = (slot-ready c.requires.well_formed c.args.p c.requires.p_bound c.args.suffixes.now c.requires.all_small c.if-suffixes-lt1.false c.s-bits.result c.s-bits.ensures c.joined-w.result c.joined-w.ensures c.put.result c.put.new.dest c.put.ensures c.if-not-put.false).1.0;
-      p_value = (slot-ready c.requires.well_formed c.args.p c.requires.p_bound c.args.suffixes.now c.requires.all_small c.if-suffixes-lt1.false c.s-bits.result c.s-bits.ensures c.joined-w.result c.joined-w.ensures c.put.result c.put.new.dest c.put.ensures c.if-not-put.false).1.1;
-    }
+pub put_all-requires-2 : goal.put_all-requires-2
+put_all-requires-2 c =
+    let asks = rest-asks c.requires.well_formed c.args.p c.requires.p_bound c.args.suffixes.now c.requires.all_small c.if-suffixes-lt1.false c.s-bits.result c.s-bits.ensures c.joined-w.result c.joined-w.ensures (is_ok c.put.result) c.put.new.dest c.put.ensures (told-ok c.in_ok-put.was) c.slot_of-c.result c.slot_of-c.ensures _ (behind c.args.suffixes.now) in
+    record { well_formed = asks.0; c_bound = asks.1.0; c_nonzero = asks.1.1.0; all_small = asks.1.1.1 }
 
-pub put_all-ok-requires-2 : goal.put_all-ok-requires-2
-put_all-ok-requires-2 c =
-    record {
-      well_formed = (rest-asks c.requires.well_formed c.args.p c.requires.p_bound c.args.suffixes.now c.requires.all_small c.if-suffixes-lt1.false c.s-bits.result c.s-bits.ensures c.joined-w.result c.joined-w.ensures c.put.result c.put.new.dest c.put.ensures c.if-not-put.false c.slot_of-at.result c.slot_of-at.ensures _ (behind c.args.suffixes.now)).0;
-      c_bound = (rest-asks c.requires.well_formed c.args.p c.requires.p_bound c.args.suffixes.now c.requires.all_small c.if-suffixes-lt1.false c.s-bits.result c.s-bits.ensures c.joined-w.result c.joined-w.ensures c.put.result c.put.new.dest c.put.ensures c.if-not-put.false c.slot_of-at.result c.slot_of-at.ensures _ (behind c.args.suffixes.now)).1.0;
-      c_nonzero = (rest-asks c.requires.well_formed c.args.p c.requires.p_bound c.args.suffixes.now c.requires.all_small c.if-suffixes-lt1.false c.s-bits.result c.s-bits.ensures c.joined-w.result c.joined-w.ensures c.put.result c.put.new.dest c.put.ensures c.if-not-put.false c.slot_of-at.result c.slot_of-at.ensures _ (behind c.args.suffixes.now)).1.1.0;
-      all_small = (rest-asks c.requires.well_formed c.args.p c.requires.p_bound c.args.suffixes.now c.requires.all_small c.if-suffixes-lt1.false c.s-bits.result c.s-bits.ensures c.joined-w.result c.joined-w.ensures c.put.result c.put.new.dest c.put.ensures c.if-not-put.false c.slot_of-at.result c.slot_of-at.ensures _ (behind c.args.suffixes.now)).1.1.1;
-    }
+pub returns-in_err-put_all-2 : goal.returns-in_err-put_all-2
+returns-in_err-put_all-2 c =
+    let p = err_from_is_err_and c.from_residual-in_err-put_all-2.result c.from_residual-in_err-put_all-2.ensures.1 in
+    rw p.1 record { poured = whole-done c.requires.well_formed c.args.p c.requires.p_bound c.args.suffixes.now c.requires.all_small c.if-suffixes-lt1.false c.s-bits.result c.s-bits.ensures c.joined-w.result c.joined-w.ensures (is_ok c.put.result) c.put.new.dest c.put.ensures (told-ok c.in_ok-put.was) c.slot_of-c.result c.slot_of-c.ensures _ (behind c.args.suffixes.now) false c.put_all-2.new.dest c.in_err-put_all-2.ensures.poured; stays = tt }
 
 pub returns : goal.returns
 returns c =
     record {
-      poured = whole-done c.requires.well_formed c.args.p c.requires.p_bound c.args.suffixes.now c.requires.all_small c.if-suffixes-lt1.false c.s-bits.result c.s-bits.ensures c.joined-w.result c.joined-w.ensures c.put.result c.put.new.dest c.put.ensures c.if-not-put.false c.slot_of-at.result c.slot_of-at.ensures _ (behind c.args.suffixes.now) c.put_all-ok-2.result c.put_all-ok-2.new.dest c.put_all-ok-2.ensures.poured;
-      stays = λ e k. whole-stays c.requires.well_formed c.args.p c.requires.p_bound c.args.suffixes.now c.requires.all_small c.if-suffixes-lt1.false c.s-bits.result c.s-bits.ensures c.joined-w.result c.joined-w.ensures c.put.result c.put.new.dest c.put.ensures c.if-not-put.false c.slot_of-at.result c.slot_of-at.ensures _ (behind c.args.suffixes.now) c.put_all-ok-2.result c.put_all-ok-2.new.dest c.put_all-ok-2.ensures.stays e;
+      poured = whole-done c.requires.well_formed c.args.p c.requires.p_bound c.args.suffixes.now c.requires.all_small c.if-suffixes-lt1.false c.s-bits.result c.s-bits.ensures c.joined-w.result c.joined-w.ensures (is_ok c.put.result) c.put.new.dest c.put.ensures (told-ok c.in_ok-put.was) c.slot_of-c.result c.slot_of-c.ensures _ (behind c.args.suffixes.now) true c.put_all-2.new.dest c.in_ok-put_all-2.ensures.poured;
+      stays = whole-stays c.requires.well_formed c.args.p c.requires.p_bound c.args.suffixes.now c.requires.all_small c.if-suffixes-lt1.false c.s-bits.result c.s-bits.ensures c.joined-w.result c.joined-w.ensures (is_ok c.put.result) c.put.new.dest c.put.ensures (told-ok c.in_ok-put.was) c.slot_of-c.result c.slot_of-c.ensures _ (behind c.args.suffixes.now) true c.put_all-2.new.dest c.in_ok-put_all-2.ensures.stays refl;
     }

@@ -1,9 +1,6 @@
--- No entry before i is above the bits joined so far. Assumes nothing.
-use Rattle.std.proofs.Common.{ℕ, ◌-◌, ◌<◌, ◌≤◌, length, get_or}
+-- No entry before the index is above the bits joined so far. Assumes nothing.
+use Rattle.std.proofs.Common.{ℕ, ◌<◌, ◌≤◌, get_or}
 use Rattle.strip.proofs.bounds.joined.Given as goal
 
-abbrev pub invariant-loop-i : goal.invariant-loop-i
-invariant-loop-i l = (l.i ≤ length l.entries) × ((k : ℕ) → k < l.i → get_or l.entries k 0 ≤ l.bits)
-
-abbrev pub decreases-loop-i : goal.decreases-loop-i
-decreases-loop-i l = length l.entries - l.i
+abbrev pub invariant-loop-entry : goal.invariant-loop-entry
+invariant-loop-entry l = (k : ℕ) → k < l.entry-index → get_or l.entries k 0 ≤ l.bits

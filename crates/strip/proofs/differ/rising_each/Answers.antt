@@ -1,24 +1,15 @@
--- Each entry before i is below the next. Assumes nothing.
-use Rattle.std.proofs.Common.{arith}
-use Rattle.strip.proofs.PlaceLaws.{falls-no, rises-yes, rises-more}
+-- Each is asked whether it is below the next. Assumes nothing.
+use Rattle.std.proofs.Common.{◌≡◌, ltb, rules}
+use Rattle.std.specs.List.{IsAllAdjacentAnswer}
+use Rattle.std.proofs.lemmas.List.Sorted.{answers_always}
+use Rattle.strip.proofs.PlaceLaws.{asked-each}
 use Rattle.strip.proofs.differ.rising_each.Goals as goal
-
-pub loop-i-init : goal.loop-i-init
-loop-i-init c = (omega arith, λ k l. absurd (omega arith))
-
-pub returns-then-entries-i : goal.returns-then-entries-i
-returns-then-entries-i c =
-    record {
-      yes = (falls-no c.args.entries.now c.loop-i.i (omega arith) (omega arith) c.if-entries-i.true).0;
-      no = (falls-no c.args.entries.now c.loop-i.i (omega arith) (omega arith) c.if-entries-i.true).1;
-    }
-
-pub loop-i-preserved : goal.loop-i-preserved
-loop-i-preserved c = (omega arith, λ k l. rises-more c.args.entries.now c.loop-i.i (omega arith) c.loop-i.invariant.1 c.if-entries-i.false k (omega arith))
 
 pub returns : goal.returns
 returns c =
+    let xs = c.args.entries.now in
+    let h : IsAllAdjacentAnswer (λ x y b. b ≡ ltb x y) xs c.is_sorted_by.result = c.is_sorted_by.ensures.cases (λ x y. ltb x y) (answers_always _ _ _ (λ f a r g q. search rules)) in
     record {
-      yes = (rises-yes c.args.entries.now c.loop-i.i (omega arith) c.loop-i.invariant.1).0;
-      no = (rises-yes c.args.entries.now c.loop-i.i (omega arith) c.loop-i.invariant.1).1;
+      yes = (asked-each xs c.is_sorted_by.result h).0;
+      no = (asked-each xs c.is_sorted_by.result h).1;
     }

@@ -1,12 +1,6 @@
--- Where k lies before j, its entry is one of them. Assumes nothing.
-use mathlib.Core.Bool.{false≢true}
-use Rattle.strip.proofs.PlaceLaws.{hit-before}
+-- The entry at place k is one of them. Assumes nothing.
+use Rattle.strip.proofs.PlaceLaws.{hit-at}
 use Rattle.strip.proofs.differ.stands_at.Goals as goal
 
-pub returns-then-k-j : goal.returns-then-k-j
-returns-then-k-j c = λ e. absurd (false≢true e)
-
-pub returns : goal.returns
-returns c =
-    let a = c.args in
-    hit-before a.x a.entries.now a.k a.j c.if-k-j.false c.requires
+pub returns-then-k-entries : goal.returns-then-k-entries
+returns-then-k-entries c = hit-at c.args.x c.args.entries.now c.args.k c.if-k-entries.true

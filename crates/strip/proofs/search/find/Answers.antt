@@ -1,28 +1,39 @@
--- Past the blocks that miss, the first place in the block that hits, or in what is left. Assumes nothing.
-use Rattle.std.proofs.Common.{◌≡◌, ℕ, ◌+◌, ◌-◌, length, take, drop, ap, ◌∙◌, arith}
+-- The first place in the first block that hits, or in the rest. Assumes nothing.
+use Rattle.std.proofs.Common.{◌≡◌, ◌/◌, Option, None, ℕ, List, [], length, get_or, sym, ap, ◌∙◌, subst, true≢false, arith, rules}
+use Rattle.std.proofs.lemmas.List.Quantifiers.{position-Some}
 use Rattle.lists.specs.Lists.{mem}
-use Rattle.strip.proofs.FindLaws.{found_in, found_here, missing-rest}
+use Rattle.strip.specs.Entries.{First, Finds}
+use Rattle.strip.proofs.FindLaws.{found-block, found-rest, missing-rest}
 use Rattle.strip.proofs.search.find.Goals as goal
 
-pub returns-then-n-i-ge8 : goal.returns-then-n-i-ge8
-returns-then-n-i-ge8 c =
-    let a = c.args in
-    let xs = a.entries.now in
-    let i = c.skip-i.result in
-    let k = c.place.result in
-    let m = i + 8 - i in
-    let z : m ≡ 8 = omega arith in
-    let hit = ap (λ (n : ℕ). mem a.s (take n (drop i xs))) z ∙ c.skip-i.ensures.hit (omega arith) in
-    found_in xs a.s i m k (omega arith) c.skip-i.ensures.none c.place.ensures (found_here xs a.s i m k (omega arith) hit c.place.ensures)
+pub returns-in_err-place-in-Some : goal.returns-in_err-place-in-Some
+returns-in_err-place-in-Some c =
+    let block = get_or c.as_chunks.result.0.now c.in-Some.k [] in
+    let told = subst (λ (r : Option ℕ). Finds block c.args.s r) c.in_err-place-in-Some.was c.place.ensures in
+    absurd (true≢false (sym (position-Some (mem c.args.s) c.as_chunks.result.0.now c.in-Some.k [] (sym c.in-Some.ensures)).1 ∙ told))
 
-pub returns-then-k-n : goal.returns-then-k-n
-returns-then-k-n c =
+pub returns-in_ok-place-in-Some : goal.returns-in_ok-place-in-Some
+returns-in_ok-place-in-Some c =
     let a = c.args in
-    let xs = a.entries.now in
-    found_in xs a.s c.skip-i.result (length xs - c.skip-i.result) c.place-k.result (omega arith) c.skip-i.ensures.none c.place-k.ensures c.if-k-n.true
+    let bs = c.as_chunks in
+    let i = c.in_ok-place-in-Some.field-0 in
+    let told = subst (λ (r : Option ℕ). Finds (get_or bs.result.0.now c.in-Some.k []) a.s r) c.in_ok-place-in-Some.was c.place.ensures in
+    found-block a.entries.now a.s (length a.entries.now / 8) i bs.result.0.now bs.ensures.front bs.ensures.front_len (omega arith) c.in-Some.k (sym c.in-Some.ensures) told
 
-pub returns : goal.returns
-returns c =
+pub returns-in_err-place-in-None : goal.returns-in_err-place-in-None
+returns-in_err-place-in-None c =
     let a = c.args in
-    let xs = a.entries.now in
-    missing-rest xs a.s c.skip-i.result c.place-k.result c.skip-i.ensures.inside c.skip-i.ensures.none c.place-k.ensures c.if-k-n.false
+    let bs = c.as_chunks in
+    let none : c.from_residual-in_err-place-in-None.result ≡ None = search rules in
+    let told = subst (λ (r : Option ℕ). Finds bs.result.1.now a.s r) c.in_err-place-in-None.was c.place-in-None.ensures in
+    subst (Finds a.entries.now a.s) (sym none)
+    (missing-rest a.entries.now a.s (length a.entries.now / 8) 0 bs.result.0.now bs.ensures.front bs.ensures.front_len (omega arith) (sym c.in-None.ensures) (ap (mem a.s) (sym bs.ensures.back) ∙ told))
+
+pub returns-in_ok-place-in-None : goal.returns-in_ok-place-in-None
+returns-in_ok-place-in-None c =
+    let a = c.args in
+    let bs = c.as_chunks in
+    let i = c.in_ok-place-in-None.field-0 in
+    let told = subst (λ (r : Option ℕ). Finds bs.result.1.now a.s r) c.in_ok-place-in-None.was c.place-in-None.ensures in
+    found-rest a.entries.now a.s (length a.entries.now / 8) i bs.result.0.now bs.ensures.front bs.ensures.front_len (omega arith) (sym c.in-None.ensures)
+    (subst (λ (ys : List ℕ). First ys a.s i) bs.ensures.back told)

@@ -4,6 +4,3 @@ use Rattle.strip.proofs.search.place.Given as goal
 
 abbrev pub invariant-loop-i : goal.invariant-loop-i
 invariant-loop-i l = (l.i ≤ l.at) × (l.at ≤ length l.block) × (l.at < length l.block → get_or l.block l.at 0 ≡ l.s) × ((k : ℕ) → l.i ≤ k → k < l.at → get_or l.block k 0 ≢ l.s)
-
-abbrev pub decreases-loop-i : goal.decreases-loop-i
-decreases-loop-i l = l.i

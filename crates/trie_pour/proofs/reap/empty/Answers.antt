@@ -5,7 +5,7 @@ use Rattle.trie_pour.proofs.Reaping.{reaped-none, least, not-only, last-left, re
 use Rattle.trie_pour.proofs.reap.empty.Goals as goal
 
 pub loop-i-init : goal.loop-i-init
-loop-i-init c = reaped-none _ _ _ _ _ _ c.args.out.now c.requires.arena c.requires.root c.requires.n_in_bounds c.requires.root_value
+loop-i-init c = reaped-none _ _ _ _ _ c.args.out.now c.requires.arena c.requires.root c.requires.root_value
 
 pub overflow_add-i : goal.overflow_add-i
 overflow_add-i c = omega (arith, c.loop-i.invariant.inside)
@@ -14,16 +14,16 @@ pub overflow_add-i-in-loop-i : goal.overflow_add-i-in-loop-i
 overflow_add-i-in-loop-i c = omega (arith, c.loop-i.invariant.inside)
 
 pub offset_bounds-out-i : goal.offset_bounds-out-i
-offset_bounds-out-i c = omega (arith, c.loop-i-test.true, c.loop-i.invariant.long)
+offset_bounds-out-i c = omega (arith, c.loop-i-test.true)
 
 pub bounds-out-i : goal.bounds-out-i
-bounds-out-i c = omega (arith, c.loop-i-test.true, c.loop-i.invariant.long)
+bounds-out-i c = omega (arith, c.loop-i-test.true)
 
 pub offset_bounds-out-i-in-loop-i : goal.offset_bounds-out-i-in-loop-i
-offset_bounds-out-i-in-loop-i c = omega (arith, c.loop-i.invariant.inside, c.loop-i.invariant.long)
+offset_bounds-out-i-in-loop-i c = omega (arith, c.loop-i.invariant.inside)
 
 pub bounds-out-i-in-loop-i : goal.bounds-out-i-in-loop-i
-bounds-out-i-in-loop-i c = omega (arith, c.loop-i.invariant.inside, c.loop-i.invariant.long)
+bounds-out-i-in-loop-i c = omega (arith, c.loop-i.invariant.inside)
 
 pub thin-i-requires : goal.thin-i-requires
 thin-i-requires c =
@@ -31,9 +31,6 @@ thin-i-requires c =
     record {
       arena = g.now.arena;
       root = g.now.root;
-      le_b = c.requires.le_b;
-      b_bound = c.requires.b_bound;
-      n_in_bounds = g.long;
       i_bound = c.loop-i-test.true;
       root_value = g.now.suffixes;
       i_value = c.if-out-i.true;
@@ -46,7 +43,7 @@ pub loop-i-preserved-then-out-i : goal.loop-i-preserved-then-out-i
 loop-i-preserved-then-out-i c = reaped-on c.loop-i.invariant _ c.thin-i.ensures.inside _ _ c.thin-i.ensures.became
 
 pub offset_bounds-out-i-in-loop-i-2 : goal.offset_bounds-out-i-in-loop-i-2
-offset_bounds-out-i-in-loop-i-2 c = let g = c.loop-i.invariant in omega (arith, g.inside, g.long)
+offset_bounds-out-i-in-loop-i-2 c = let g = c.loop-i.invariant in omega (arith, g.inside)
 
 pub one_less-left-requires : goal.one_less-left-requires
 one_less-left-requires c =
@@ -54,10 +51,7 @@ one_less-left-requires c =
     record {
       arena = g.now.arena;
       root = g.now.root;
-      le_b = c.requires.le_b;
-      b_bound = c.requires.b_bound;
       root_value = least g;
-      in_bounds = not-only g c.loop-i-test.true;
     }
 
 pub overflow_add-i-in-loop-i-2 : goal.overflow_add-i-in-loop-i-2
@@ -67,27 +61,25 @@ pub loop-i-smaller : goal.loop-i-smaller
 loop-i-smaller c = omega (arith, c.loop-i.invariant.inside)
 
 pub loop-i-preserved : goal.loop-i-preserved
-loop-i-preserved c = reaped-more c.loop-i.invariant c.loop-i-test.true _ _ c.one_less-left.ensures
+loop-i-preserved c = reaped-more c.loop-i.invariant c.loop-i-test.true _ _ (c.one_less-left.ensures.became (not-only c.loop-i.invariant c.loop-i-test.true))
 
 pub offset_bounds-out-i-2 : goal.offset_bounds-out-i-2
-offset_bounds-out-i-2 c = omega (arith, c.loop-i.invariant.inside, c.loop-i.invariant.long)
+offset_bounds-out-i-2 c = omega (arith, c.loop-i.invariant.inside)
 
 pub bounds-out-i-2 : goal.bounds-out-i-2
-bounds-out-i-2 c = omega (arith, c.loop-i.invariant.inside, c.loop-i.invariant.long)
+bounds-out-i-2 c = omega (arith, c.loop-i.invariant.inside)
 
-pub only_one-requires : goal.only_one-requires
-only_one-requires c =
+pub one_less-requires : goal.one_less-requires
+one_less-requires c =
     let g = c.loop-i.invariant in
     record {
       arena = g.now.arena;
       root = g.now.root;
-      le_b = c.requires.le_b;
-      b_bound = c.requires.b_bound;
-      root_value = last-left g c.loop-i-test.false;
+      root_value = least g;
     }
 
 pub shape_of-arena : goal.shape_of-arena
-shape_of-arena c = c.only_one.auto.arena ∙ c.loop-i.invariant.now.arena.tries.long ∙ sym c.requires.arena.tries.long
+shape_of-arena c = c.one_less.auto.arena ∙ c.loop-i.invariant.now.arena.tries.long ∙ sym c.requires.arena.tries.long
 
 pub returns : goal.returns
-returns c = reaped-all c.loop-i.invariant _ _ c.only_one.ensures
+returns c = reaped-all c.loop-i.invariant _ _ (c.one_less.ensures.vanished (last-left c.loop-i.invariant c.loop-i-test.false))

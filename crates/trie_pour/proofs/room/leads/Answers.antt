@@ -6,19 +6,18 @@ use Rattle.trie_pour.proofs.Counting.{head_of, lead-more, lead-all}
 use Rattle.trie_pour.proofs.room.leads.Goals as goal
 
 pub loop-i-init : goal.loop-i-init
-loop-i-init c = (omega arith, refl, refl)
+loop-i-init c = (refl, refl)
 
 pub loop-i-preserved : goal.loop-i-preserved
 loop-i-preserved c =
     let a = c.args in
     let o = c.loop-i in (
-      omega arith,
-      length-set o.out o.i c.lead.result ∙ o.invariant.1,
-      lead-more (head_of a.b a.j) a.strip.now a.out.now o.out o.i c.lead.result (omega arith) c.requires.strip_in_bounds o.invariant.2 c.lead.ensures,
+      length-set o.out o.i c.lead.result ∙ o.invariant.0,
+      lead-more (head_of a.b a.j) a.strip.now a.out.now o.out o.i c.lead.result (omega arith) c.requires.strip_in_bounds o.invariant.1 c.lead.ensures,
     )
 
 pub returns : goal.returns
 returns c =
     let a = c.args in
     let o = c.loop-i in
-    lead-all (head_of a.b a.j) a.strip.now a.out.now o.out o.i o.invariant.0 c.loop-i-test.false o.invariant.2
+    lead-all (head_of a.b a.j) a.strip.now a.out.now o.out o.i (omega arith) c.loop-i-test.false o.invariant.1

@@ -9,7 +9,7 @@ use Rattle.trie_walk.specs.Pour.{state, poured, not_below}
 use Rattle.trie_walk.specs.Batch.{all_listed}
 use Rattle.trie_walk.proofs.Numbers.{Without, fewer}
 use Rattle.trie_walk.proofs.Levels.{all-suffixes}
-use Rattle.trie_walk.proofs.Runs.{start, waiting, load, flush, push-place, push-node, push-lead, place, place-few, done, full, anew, back}
+use Rattle.trie_walk.proofs.Runs.{start, between, waiting, load, flush, push-place, push-node, push-lead, place, place-few, done, full, anew, back}
 use Rattle.trie_walk.proofs.batch.+below.Goals as goal
 
 pub gather-requires : goal.gather-requires
@@ -51,10 +51,10 @@ overflow_shr-bound t c = let R = c.requires.batch.row in omega (arith, R.some, R
 pub loop-e-init : goal.loop-e-init
 loop-e-init t c =
     let a = c.args in
-    (refl, start a.slots a.d a.count a.from a.arena.now a.nodes.now a.leads.now _ (state a.skip a.at a.out.now) _ _ c.requires.batch c.if-d-eq1.false c.gather.ensures refl refl)
+    start a.slots a.d a.count a.from a.arena.now a.nodes.now a.leads.now _ (state a.skip a.at a.out.now) _ _ c.requires.batch c.if-d-eq1.false c.gather.ensures refl refl
 
-pub overflow_mul-count : goal.overflow_mul-count
-overflow_mul-count t c = omega (arith, c.requires.count_bound)
+pub overflow_mul-e-end : goal.overflow_mul-e-end
+overflow_mul-e-end t c = omega (arith, c.requires.count_bound)
 
 pub offset_bounds-maps-e : goal.offset_bounds-maps-e
 offset_bounds-maps-e t c = omega arith
@@ -65,17 +65,11 @@ bounds-maps-e t c = omega (arith, c.loop-e-test.true, c.requires.count_bound)
 pub overflow_mul-p : goal.overflow_mul-p
 overflow_mul-p t c = omega (arith, c.loop-e-test.true, c.requires.count_bound)
 
-pub overflow_add-e : goal.overflow_add-e
-overflow_add-e t c = omega (arith, c.loop-e-test.true, c.requires.count_bound)
-
 pub loop-w-init : goal.loop-w-init
-loop-w-init t c = anew (load c.loop-e.invariant.1 c.loop-e.invariant.0 c.loop-e-test.true)
-
-pub loop-e-smaller : goal.loop-e-smaller
-loop-e-smaller t c = omega (arith, c.loop-e-test.true)
+loop-w-init t c = anew (load c.loop-e.invariant refl c.loop-e-test.true)
 
 pub loop-e-preserved : goal.loop-e-preserved
-loop-e-preserved t c = (c.loop-w-test.false, back (load c.loop-e.invariant.1 c.loop-e.invariant.0 c.loop-e-test.true) c.loop-w.invariant)
+loop-e-preserved t c = between (back (load c.loop-e.invariant refl c.loop-e-test.true) c.loop-w.invariant) c.loop-w-test.false
 
 pub overflow_sub-d : goal.overflow_sub-d
 overflow_sub-d t c = omega (arith, c.requires.batch.row.some)
@@ -84,10 +78,10 @@ pub below-s-requires : goal.below-s-requires
 below-s-requires t c = (omega (arith, c.requires.batch.row.some), (waiting c.loop-w.invariant, c.loop-w.invariant.run.few))
 
 pub shape_of-out-then-at-out : goal.shape_of-out-then-at-out
-shape_of-out-then-at-out t c = c.below-s.auto.out ∙ c.loop-w.invariant.run.long ∙ c.loop-e.invariant.1.run.long
+shape_of-out-then-at-out t c = c.below-s.auto.out ∙ c.loop-w.invariant.run.long ∙ c.loop-e.invariant.run.long
 
 pub returns-then-at-out : goal.returns-then-at-out
-returns-then-at-out t c = full (flush (back (load c.loop-e.invariant.1 c.loop-e.invariant.0 c.loop-e-test.true) c.loop-w.invariant) _ _ _ c.below-s.ensures c.below-s.auto.out) c.if-skip-eq0.true c.if-at-out.true
+returns-then-at-out t c = full (flush (back (load c.loop-e.invariant refl c.loop-e-test.true) c.loop-w.invariant) _ _ _ c.below-s.ensures c.below-s.auto.out) c.if-skip-eq0.true c.if-at-out.true
 
 pub loop-w-smaller-else-at-out : goal.loop-w-smaller-else-at-out
 loop-w-smaller-else-at-out t c = omega (arith, c.if-c-eq32.true)
@@ -138,10 +132,10 @@ pub overflow_sub-d-2 : goal.overflow_sub-d-2
 overflow_sub-d-2 t c = omega (arith, c.requires.batch.row.some)
 
 pub below-requires : goal.below-requires
-below-requires t c = (omega (arith, c.requires.batch.row.some), (waiting c.loop-e.invariant.1, c.loop-e.invariant.1.run.few))
+below-requires t c = (omega (arith, c.requires.batch.row.some), (waiting c.loop-e.invariant, c.loop-e.invariant.run.few))
 
 pub shape_of-out : goal.shape_of-out
-shape_of-out t c = c.below.auto.out ∙ c.loop-e.invariant.1.run.long
+shape_of-out t c = c.below.auto.out ∙ c.loop-e.invariant.run.long
 
 pub returns : goal.returns
-returns t c = done c.loop-e.invariant.1 _ _ _ c.loop-e.invariant.0 c.loop-e-test.false c.below.ensures
+returns t c = done c.loop-e.invariant _ _ _ refl c.loop-e-test.false c.below.ensures

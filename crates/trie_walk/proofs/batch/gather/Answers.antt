@@ -7,7 +7,7 @@ use Rattle.trie_walk.proofs.Copies.{one_more}
 use Rattle.trie_walk.proofs.batch.gather.Goals as goal
 
 pub loop-i-init : goal.loop-i-init
-loop-i-init c = (omega arith, c.requires.maps_len, λ e h. absurd (omega arith))
+loop-i-init c = (c.requires.maps_len, λ e h. absurd (omega arith))
 
 pub copy-requires : goal.copy-requires
 copy-requires c =
@@ -15,13 +15,13 @@ copy-requires c =
       arena_len = c.requires.arena_len;
       n_lt_slots = c.requires.by_index c.loop-i.i c.loop-i-test.true;
       i_bound = omega arith;
-      maps_len = c.loop-i.invariant.1;
+      maps_len = c.loop-i.invariant.0;
     }
 
 pub loop-i-preserved : goal.loop-i-preserved
 loop-i-preserved c =
     let a = c.args in
-    (omega arith, c.copy.ensures.long ∙ c.loop-i.invariant.1, one_more (λ i. node_word (drop a.slots a.arena.now) (get_or a.nodes.now i 0)) c.loop-i.maps _ c.loop-i.i c.loop-i.invariant.2 c.copy.ensures)
+    (c.copy.ensures.long ∙ c.loop-i.invariant.0, one_more (λ i. node_word (drop a.slots a.arena.now) (get_or a.nodes.now i 0)) c.loop-i.maps _ c.loop-i.i c.loop-i.invariant.1 c.copy.ensures)
 
 pub returns : goal.returns
-returns c = λ e h. c.loop-i.invariant.2 e (omega arith)
+returns c = λ e h. c.loop-i.invariant.1 e (omega arith)

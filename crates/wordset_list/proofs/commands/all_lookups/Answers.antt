@@ -12,12 +12,12 @@ use Rattle.wordset_list.proofs.Judging.{or-none}
 use Rattle.wordset_list.proofs.Parts.{all-one-more}
 use Rattle.wordset_list.proofs.commands.all_lookups.Goals as goal
 
-pub loop-i-preserved : goal.loop-i-preserved
-loop-i-preserved c =
+pub loop-code-preserved : goal.loop-code-preserved
+loop-code-preserved c =
     let xs = c.args.codes.now in
-    let i = c.loop-i.i in
+    let i = c.loop-code.code-index in
     let h : i < length xs = omega arith in
-    (omega arith, rw add-one (or-none (get_or xs i 0) c.loop-i.bits ∙ ap (λ (b : Bool). b && is_lookup (get_or xs i 0)) c.loop-i.invariant.1 ∙ sym (all-one-more is_lookup xs i h)))
+    rw add-one (or-none c.loop-code.bits (get_or xs i 0) ∙ ap (λ (b : Bool). b && is_lookup (get_or xs i 0)) c.loop-code.invariant ∙ sym (all-one-more is_lookup xs i h))
 
 pub returns : goal.returns
-returns c = c.loop-i.invariant.1 ∙ ap (all is_lookup) (take_all c.loop-i.i c.args.codes.now (omega arith))
+returns c = c.loop-code.invariant ∙ ap (all is_lookup) (take_all c.loop-code.code-index c.args.codes.now (omega arith))

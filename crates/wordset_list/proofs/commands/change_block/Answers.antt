@@ -3,15 +3,11 @@ use mathlib.Core.Path.{sym, subst}
 use mathlib.Core.Bool.{true, false}
 use mathlib.Core.List.{List}
 use Prim.Native.Nat.{ℕ, ◌≤◌}
-use native.Mathlib.Omega.{arith}
 use lib.ListN.{length}
 use Rattle.lists.specs.Lists.{first_bad}
 use Rattle.region.specs.Read.{reading}
 use Rattle.region.specs.WellFormed.{WellFormed}
-use Rattle.promises.specs.Refusals.{Told}
 use Rattle.promises.specs.List.{word_of}
-use Rattle.wordset_list.specs.Performing.{RanAs}
-use Rattle.wordset_list.proofs.Joining.{up-to-end}
 use Rattle.wordset_list.proofs.Opening.{tried-told, ran-after}
 use Rattle.wordset_list.proofs.commands.change_block.Goals as goal
 
@@ -29,8 +25,7 @@ pub returns-then-open_block : goal.returns-then-open_block
 returns-then-open_block c =
     let o = c.open_block in
     let a = c.args in
-    subst (λ (t : Told (Unit {0})). RanAs a.region.now a.codes.now a.words.now a.answers.now t c.open_block.new.region c.open_block.new.answers) (sym (up-to-end (length a.words.now) (length a.words.now) (omega arith)))
-    (tried-told a.region.now a.codes.now a.words.now a.answers.now o.result c.open_block.new.region c.open_block.new.answers o.ensures true c.if-open_block.true)
+    tried-told a.region.now a.codes.now a.words.now a.answers.now o.result o.new.region o.new.answers o.ensures true c.if-open_block.true
 
 pub run_each-requires : goal.run_each-requires
 run_each-requires c =
@@ -50,4 +45,4 @@ pub returns : goal.returns
 returns c =
     let o = c.open_block in
     let a = c.args in
-    ran-after a.region.now a.codes.now a.words.now a.answers.now o.result c.open_block.new.region c.open_block.new.answers o.ensures c.if-open_block.false c.run_each.ensures
+    ran-after a.region.now a.codes.now a.words.now a.answers.now o.result o.new.region o.new.answers o.ensures c.if-open_block.false c.run_each.result c.run_each.new.region c.run_each.new.answers c.run_each.ensures

@@ -1,12 +1,7 @@
 -- A block of lookups by the answers of its words; any other as it is run where it may change the region. Assumes nothing.
-use mathlib.Core.Path.{sym, subst, ◌∙◌}
-use native.Mathlib.Omega.{arith}
-use lib.ListN.{length}
-use Rattle.promises.specs.Refusals.{Told}
-use Rattle.wordset_list.specs.Performing.{RanAs}
+use mathlib.Core.Path.{sym, ◌∙◌}
 use Rattle.wordset_list.proofs.Carrying.{word_read}
 use Rattle.wordset_list.proofs.Looking.{looked-block}
-use Rattle.wordset_list.proofs.Joining.{up-to-end}
 use Rattle.wordset_list.proofs.commands.run_block.Goals as goal
 
 pub contains_each-requires : goal.contains_each-requires
@@ -21,7 +16,5 @@ contains_each-requires c =
 
 pub returns-then-all_lookups : goal.returns-then-all_lookups
 returns-then-all_lookups c =
-    let lookups = c.all_lookups in
     let a = c.args in
-    subst (λ (t : Told (Unit {0})). RanAs a.region.now a.codes.now a.words.now a.answers.now t a.region.now c.contains_each.new.answers) (sym (up-to-end (length a.words.now) (length a.words.now) (omega arith)))
-    (looked-block a.region.now a.codes.now a.words.now a.answers.now c.contains_each.new.answers c.requires.well_formed c.requires.codes_len c.requires.words_in_bounds (sym lookups.ensures ∙ c.if-all_lookups.true) c.contains_each.ensures.each c.contains_each.ensures.long c.contains_each.ensures.later)
+    looked-block a.region.now a.codes.now a.words.now a.answers.now c.contains_each.new.answers c.requires.well_formed c.requires.codes_len c.requires.words_in_bounds (sym c.all_lookups.ensures ∙ c.if-all_lookups.true) c.contains_each.ensures.each c.contains_each.ensures.long c.contains_each.ensures.later

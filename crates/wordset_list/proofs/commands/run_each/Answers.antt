@@ -1,14 +1,10 @@
 -- One command a turn: what was answered so far and the commands that are left make up the whole outcome. Assumes nothing.
-use mathlib.Core.Path.{sym, subst, ◌∙◌}
+use mathlib.Core.Path.{◌∙◌}
 use Prim.Native.Nat.{◌<◌}
 use native.Mathlib.Omega.{arith}
 use native.Mathlib.Numerals.{add-one}
-use lib.ListN.{length, get_or}
-use Rattle.promises.specs.Refusals.{Told}
-use Rattle.wordset_list.specs.declared.commands.Performed.{Performed}
-use Rattle.wordset_list.specs.Performing.{PerformedAs, RanAs}
+use lib.ListN.{length}
 use Rattle.wordset_list.proofs.Carrying.{start, code-known, word_fits, next, stop, done}
-use Rattle.wordset_list.proofs.Joining.{up-to-stop, up-to-end}
 use Rattle.wordset_list.proofs.commands.run_each.Goals as goal
 
 pub loop-i-init : goal.loop-i-init
@@ -25,26 +21,22 @@ perform-requires c =
       code_bound = code-known a.region.now a.codes.now a.words.now a.answers.now c.loop-i.i c.requires.codes_len_bound (omega arith);
     }
 
-pub shape_of-region-in-NoRoom : goal.shape_of-region-in-NoRoom
-shape_of-region-in-NoRoom c = c.perform.auto.region ∙ c.loop-i.invariant.size
+pub shape_of-region-in-Err : goal.shape_of-region-in-Err
+shape_of-region-in-Err c = c.perform.auto.region ∙ c.loop-i.invariant.size
 
-pub shape_of-answers-in-NoRoom : goal.shape_of-answers-in-NoRoom
-shape_of-answers-in-NoRoom c = c.loop-i.invariant.long
+pub shape_of-answers-in-Err : goal.shape_of-answers-in-Err
+shape_of-answers-in-Err c = c.loop-i.invariant.long
 
-pub returns-in-NoRoom : goal.returns-in-NoRoom
-returns-in-NoRoom c =
+pub returns-in-Err : goal.returns-in-Err
+returns-in-Err c =
     let a = c.args in
-    let i = c.loop-i.i in
-    subst (λ (t : Told (Unit {0})). RanAs a.region.now a.codes.now a.words.now a.answers.now t c.perform.new.region c.loop-i.answers) (sym (up-to-stop i (length a.words.now) (omega arith)))
-    (stop a.region.now a.codes.now a.words.now a.answers.now c.loop-i.invariant c.requires.codes_len c.requires.words_in_bounds (omega arith)
-    (subst (λ (o : Performed). PerformedAs (get_or a.codes.now i 0) (get_or a.words.now i 0) c.loop-i.region o c.perform.new.region) c.in-NoRoom.is c.perform.ensures))
+    let h : c.loop-i.i < length a.words.now = omega arith in
+    (h, stop a.region.now a.codes.now a.words.now a.answers.now c.loop-i.invariant c.requires.codes_len c.requires.words_in_bounds h c.in-Err.ensures)
 
 pub loop-i-preserved : goal.loop-i-preserved
 loop-i-preserved c =
     let a = c.args in
-    let i = c.loop-i.i in
-    next a.region.now a.codes.now a.words.now a.answers.now c.loop-i.invariant c.requires.codes_len c.requires.words_in_bounds _ (add-one i) (omega arith) c.perform.auto.region
-    (subst (λ (o : Performed). PerformedAs (get_or a.codes.now i 0) (get_or a.words.now i 0) c.loop-i.region o c.perform.new.region) c.in-Answered.is c.perform.ensures)
+    next a.region.now a.codes.now a.words.now a.answers.now c.loop-i.invariant c.requires.codes_len c.requires.words_in_bounds _ (add-one c.loop-i.i) (omega arith) c.perform.auto.region c.in-Ok.ensures
 
 pub shape_of-region : goal.shape_of-region
 shape_of-region c = c.loop-i.invariant.size
@@ -55,5 +47,4 @@ shape_of-answers c = c.loop-i.invariant.long
 pub returns : goal.returns
 returns c =
     let a = c.args in
-    subst (λ (t : Told (Unit {0})). RanAs a.region.now a.codes.now a.words.now a.answers.now t c.loop-i.region c.loop-i.answers) (sym (up-to-end c.loop-i.i (length a.words.now) (omega arith)))
-    (done a.region.now a.codes.now a.words.now a.answers.now c.loop-i.invariant c.requires.codes_len c.requires.words_in_bounds (omega arith))
+    done a.region.now a.codes.now a.words.now a.answers.now c.loop-i.invariant c.requires.codes_len c.requires.words_in_bounds (omega arith)

@@ -11,12 +11,12 @@ use Rattle.model.specs.Commands.{known_code}
 use Rattle.wordset_list.proofs.Parts.{all-one-more}
 use Rattle.wordset_list.proofs.judge.all_known.Goals as goal
 
-pub loop-i-preserved : goal.loop-i-preserved
-loop-i-preserved c =
+pub loop-code-preserved : goal.loop-code-preserved
+loop-code-preserved c =
     let xs = c.args.codes.now in
-    let i = c.loop-i.i in
+    let i = c.loop-code.code-index in
     let h : i < length xs = omega arith in
-    (omega arith, rw add-one (ap (λ (b : Bool). b && known_code (get_or xs i 0)) c.loop-i.invariant.1 ∙ sym (all-one-more known_code xs i h)))
+    rw add-one (ap (λ (b : Bool). b && known_code (get_or xs i 0)) c.loop-code.invariant ∙ sym (all-one-more known_code xs i h))
 
 pub returns : goal.returns
-returns c = c.loop-i.invariant.1 ∙ ap (all known_code) (take_all c.loop-i.i c.args.codes.now (omega arith))
+returns c = c.loop-code.invariant ∙ ap (all known_code) (take_all c.loop-code.code-index c.args.codes.now (omega arith))

@@ -1,14 +1,13 @@
--- All words are members if those from i on are. Assumes nothing.
+-- All words are members if those that are left are. Assumes nothing.
 use mathlib.Core.Path.{◌≡◌}
-use Prim.Native.Nat.{◌-◌, ◌≤◌}
-use lib.ListN.{length, drop}
-use Rattle.lists.specs.Lists.{all}
+use Prim.Native.Nat.{◌≤◌}
+use lib.ListN.{length}
+use Rattle.std.specs.Slice.Iter.{chunks_rest, chunks_size}
+use Rattle.lists.specs.Lists.{all, first_bad}
 use Rattle.model.specs.Reading.{has}
 use Rattle.region.specs.Read.{reading}
+use Rattle.promises.specs.List.{word_of}
 use Rattle.wordset_list.proofs.members.has_all.Given as goal
 
-abbrev pub invariant-loop-i : goal.invariant-loop-i
-invariant-loop-i l = (l.i ≤ length l.words) × (all (has (reading l.region)) l.words ≡ all (has (reading l.region)) (drop l.i l.words))
-
-abbrev pub decreases-loop-i : goal.decreases-loop-i
-decreases-loop-i l = length l.words - l.i
+abbrev pub invariant-loop-block : goal.invariant-loop-block
+invariant-loop-block l = (chunks_size l.block-iterator ≡ 64) × ((length (chunks_rest l.block-iterator) ≤ first_bad (word_of (reading l.region)) (chunks_rest l.block-iterator)) × (all (has (reading l.region)) l.words ≡ all (has (reading l.region)) (chunks_rest l.block-iterator)))

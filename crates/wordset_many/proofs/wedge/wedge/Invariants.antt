@@ -4,6 +4,3 @@ use Rattle.wordset_many.proofs.wedge.wedge.Given as goal
 
 abbrev pub invariant-loop-j : goal.invariant-loop-j
 invariant-loop-j l = Wedging l.k l.keys l.initial.ranks l.end l.j l.ranks
-
-abbrev pub decreases-loop-j : goal.decreases-loop-j
-decreases-loop-j l = l.j

@@ -1,6 +1,0 @@
--- Each turn comes closer to the last key.
-use Rattle.std.proofs.Common.{◌-◌}
-use Rattle.desk.proofs.grid.frames.Given as goal
-
-abbrev pub decreases-loop-i : goal.decreases-loop-i
-decreases-loop-i l = l.n - l.i

@@ -1,6 +1,0 @@
--- Each turn comes closer to the end of the line.
-use Rattle.std.proofs.Common.{length, ◌-◌}
-use Rattle.desk.proofs.text.past_blanks.Given as goal
-
-abbrev pub decreases-loop-i : goal.decreases-loop-i
-decreases-loop-i l = length l.line - l.i

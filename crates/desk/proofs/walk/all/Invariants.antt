@@ -1,6 +1,0 @@
--- Each turn walks at least one word further.
-use Rattle.std.proofs.Common.{◌-◌}
-use Rattle.desk.proofs.walk.all.Given as goal
-
-abbrev pub decreases-loop-at : goal.decreases-loop-at
-decreases-loop-at g l = 65536 - l.at

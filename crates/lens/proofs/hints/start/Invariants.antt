@@ -1,9 +1,0 @@
--- A word is shifted by at most 40 bits; the places are any numbers. Assumes nothing.
-use Rattle.std.proofs.Common.{◌-◌, length}
-use Rattle.lens.proofs.hints.start.Given as goal
-
-abbrev pub invariant-loop-i : goal.invariant-loop-i
-invariant-loop-i l = Unit {0}
-
-abbrev pub decreases-loop-i : goal.decreases-loop-i
-decreases-loop-i l = length l.words - l.i

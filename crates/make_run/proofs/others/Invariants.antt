@@ -1,9 +1,0 @@
--- It counts no further than it has walked.
-use Rattle.std.proofs.Common.{length, ◌-◌, ◌≤◌}
-use Rattle.make_run.proofs.others.Given as goal
-
-abbrev pub invariant-loop-i : goal.invariant-loop-i
-invariant-loop-i l = (l.i ≤ length l.region) × (l.count ≤ l.i)
-
-abbrev pub decreases-loop-i : goal.decreases-loop-i
-decreases-loop-i l = length l.region - l.i
