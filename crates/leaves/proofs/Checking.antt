@@ -1,6 +1,5 @@
 -- What the checks of a call give to what it calls. Assumes nothing.
 use Rattle.std.proofs.Common.{◌≡◌, ℕ, ◌+◌, ◌-◌, ◌*◌, ◌^◌, ◌<◌, ◌≤◌, Bool, true, ltb, List, length, get_or, drop, replicate, sym, ◌∙◌, subst, arith, get_or-drop, get_or-take, ltb-true}
-use Rattle.std.specs.Prelude.{Option, Some, None, IfSome}
 use lib.ListN.{length-replicate, get_or-replicate}
 use borrow.Rule.Slice.PartMut.{mid_of, mid_len}
 use Rattle.lists.specs.Lists.{all, sorted}
@@ -15,8 +14,8 @@ pub all-narrow : (b e : ℕ) (ss : List ℕ) (r : Bool) → e ≡ 2 ^ (8 * b) �
 all-narrow b e ss r h a t i l = subst (λ (q : ℕ). get_or ss i 0 < q) h (ltb-true (get_or ss i 0) e (all-places (λ x. ltb x e) ss (sym a ∙ t) i l))
 
 -- an entry of a part is one of the whole
-part_at : {X : Type 0} (a e i : ℕ) (xs : List X) (d : X) → e ≤ length xs → i < length (mid_of a (e - a) xs) → get_or (mid_of a (e - a) xs) i d ≡ get_or xs (a + i) d
-part_at a e i xs d h l = get_or-take (e - a) (drop a xs) i d (subst (λ (q : ℕ). i < q) (mid_len a e xs h) l) ∙ get_or-drop a xs i d
+part_at : (a e i : ℕ) (xs : List ℕ) → e ≤ length xs → i < length (mid_of a (e - a) xs) → get_or (mid_of a (e - a) xs) i 0 ≡ get_or xs (a + i) 0
+part_at a e i xs h l = get_or-take (e - a) (drop a xs) i 0 (subst (λ (q : ℕ). i < q) (mid_len a e xs h) l) ∙ get_or-drop a xs i 0
 
 pub part-long : {X : Type 0} (a n : ℕ) (xs : List X) → a + n ≤ length xs → length (mid_of a (a + n - a) xs) ≡ n
 part-long a n xs h = let z : a + n - a ≡ n = omega arith in mid_len a (a + n) xs h ∙ z
@@ -24,25 +23,20 @@ part-long a n xs h = let z : a + n - a ≡ n = omega arith in mid_len a (a + n) 
 pub part-narrow : (b a e : ℕ) (ss : List ℕ) → Narrow b ss → e ≤ length ss → Narrow b (mid_of a (e - a) ss)
 part-narrow b a e ss n h i l =
     let z : i < e - a = subst (λ (q : ℕ). i < q) (mid_len a e ss h) l in
-    subst (λ (q : ℕ). q < 2 ^ (8 * b)) (sym (part_at a e i ss 0 h l)) (n (a + i) (omega arith))
+    subst (λ (q : ℕ). q < 2 ^ (8 * b)) (sym (part_at a e i ss h l)) (n (a + i) (omega arith))
 
--- one root for all places
-module _ (n e : ℕ) (few : e ≤ 64) where
-  abbrev roots : List (Option ℕ)
-  roots = replicate 64 (Some n)
+pub part-roots : (v : Nodes) (N n e : ℕ) → Root v N n → e ≤ 64 → (i : ℕ) → i < length (mid_of 0 (e - 0) (replicate 64 n)) → Root v N (get_or (mid_of 0 (e - 0) (replicate 64 n)) i 0)
+part-roots v N n e r h i l =
+    let long : length (replicate 64 n) ≡ 64 = length-replicate 64 n in
+    let z : i < e - 0 = subst (λ (q : ℕ). i < q) (mid_len 0 e (replicate 64 n) (omega arith)) l in
+    let at : 0 + i < 64 = omega arith in
+    subst (Root v N) (sym (part_at 0 e i (replicate 64 n) (omega arith) l ∙ get_or-replicate 64 (0 + i) n 0 at)) r
 
-  long : length roots ≡ 64
-  long = length-replicate 64 (Some n)
-
-  pub roots-long : length (mid_of 0 (e - 0) roots) ≡ e
-  roots-long =
-      let z : e - 0 ≡ e = omega arith in
-      mid_len 0 e roots (omega (arith, long)) ∙ z
-
-  pub part-roots : (v : Nodes) (N : ℕ) → Root v N n → (i : ℕ) → i < length (mid_of 0 (e - 0) roots) → IfSome (get_or (mid_of 0 (e - 0) roots) i None) (λ r. Root v N r)
-  part-roots v N r i l =
-      let at : 0 + i < 64 = omega (arith, roots-long) in
-      subst (λ (o : Option ℕ). IfSome o (λ r. Root v N r)) (sym (part_at 0 e i roots None (omega (arith, long)) l ∙ get_or-replicate 64 (0 + i) (Some n) None at)) r
+pub roots-long : (n e : ℕ) → e ≤ 64 → length (mid_of 0 (e - 0) (replicate 64 n)) ≡ e
+roots-long n e h =
+    let long : length (replicate 64 n) ≡ 64 = length-replicate 64 n in
+    let z : e - 0 ≡ e = omega arith in
+    mid_len 0 e (replicate 64 n) (omega arith) ∙ z
 
 -- no more members than entries
 pub members-fit : (N b used c : ℕ) (ss l l' : List ℕ) (n left room : ℕ) → Planted N b used l c n (sorted ss) left l' → length ss ≤ room → length (members (nodes_in N l') b n) ≤ room

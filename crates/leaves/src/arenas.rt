@@ -42,7 +42,7 @@ fn ask(arena: &[u64], shape: Shape, used: usize, root: usize, suffixes: &[u64], 
     requires narrow { Narrow shape.b suffixes.now }
     requires answers_len { length answers.old ≡ length suffixes.now }
 {
-    let roots = [Some(root); 64];
+    let roots = [root as u64; 64];
     let mut i = 0;
     while i < suffixes.len() {
         let n = (suffixes.len() - i).min(64);

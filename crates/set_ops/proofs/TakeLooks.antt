@@ -1,6 +1,5 @@
 -- Whether a suffix qualifies, as the slot of the other set tells; and the suffixes that do, as the words that do. Assumes nothing.
-use Rattle.std.proofs.Common.{◌≡◌, ℕ, zero, suc, ◌+◌, ◌-◌, ◌*◌, ◌^◌, ◌<◌, ◌≤◌, Bool, true, false, cond, eqb, List, [], ◌∷◌, ◌++◌, map, length, get_or, take, set, replicate, sym, refl, ap, ◌∙◌, subst, append-nil, arith, length-set, length-take-le, take_all, get_or-set_other, get_or-take, take-suc, get_or-set_same, take-suc-set, pow_pos}
-use Rattle.std.specs.Prelude.{IfSome, None, Option, Some}
+use Rattle.std.proofs.Common.{◌≡◌, ℕ, zero, suc, ◌+◌, ◌-◌, ◌*◌, ◌^◌, ◌<◌, ◌≤◌, Bool, true, false, cond, eqb, List, [], ◌∷◌, ◌++◌, map, length, get_or, take, set, replicate, sym, refl, ap, ◌∙◌, subst, append-nil, arith, length-set, length-take-le, take_all, get_or-set_other, get_or-take, take-suc, get_or-set_same, take-suc-set, pow_pos, lt-ltb}
 use native.Mathlib.Decide.{ℕ_discrete}
 use mir.Val.{bool_byte}
 use lib.ListN.{get_or-replicate}
@@ -83,33 +82,34 @@ flag-next xs ss fs₀ fs i room at h b eb f ef = record { upto = omega arith; lo
 module _ (l : List ℕ) (wf : WellFormed l) (d : ℕ) (h : d < (numbers l).C) (k : (seen (numbers l) l).kind d ≡ 2) (n b r : ℕ) (en : n ≡ (numbers l).N) (eb : b ≡ bytes_of (numbers l).S) (er : r ≡ (seen (numbers l) l).link d)
     (ss : List ℕ) (hs : AllSmall (numbers l).S ss) (few : length ss ≤ 64) where
   -- as many roots as suffixes, all the same
-  abbrev rs : List (Option ℕ)
-  rs = take (length ss - 0) (replicate 64 (Some r))
+  abbrev rs : List ℕ
+  rs = take (length ss - 0) (replicate 64 r)
 
   whole : length ss - 0 ≡ length ss
   whole = omega arith
 
   long : length rs ≡ length ss
-  long = ap (λ (z : ℕ). length (take z (replicate 64 (Some r)))) whole ∙ length-take-le (length ss) (replicate 64 (Some r)) few
+  long = ap (λ (z : ℕ). length (take z (replicate 64 r))) whole ∙ length-take-le (length ss) (replicate 64 r) few
 
-  same : (i : ℕ) → i < length ss → get_or rs i None ≡ Some r
-  same i u = ap (λ (z : ℕ). get_or (take z (replicate 64 (Some r))) i None) whole ∙ get_or-take (length ss) (replicate 64 (Some r)) i None u ∙ get_or-replicate 64 i (Some r) None (omega arith)
+  same : (i : ℕ) → i < length ss → get_or rs i 0 ≡ r
+  same i u = ap (λ (z : ℕ). get_or (take z (replicate 64 r)) i 0) whole ∙ get_or-take (length ss) (replicate 64 r) i 0 u ∙ get_or-replicate 64 i r 0 (omega arith)
 
   root : Root (nodes_in n (arena_part l wf)) n r
   root = (trie-ready l wf d h k n b r en eb er 0 (pow_pos (numbers l).S)).1.0
 
   -- what asking a trie asks
   pub trie-asks : {X : Type 0} → X
-      → Tries n b (arena_part l wf) × ((length ss ≤ 64) × ((length rs ≡ length ss) × (X × (((i : ℕ) → i < length rs → IfSome (get_or rs i None) (λ x. Root (nodes_in n (arena_part l wf)) n x)) × ((i : ℕ) → i < length ss → get_or ss i 0 < 2 ^ (8 * b))))))
+      → Tries n b (arena_part l wf) × ((length ss ≤ 64) × ((length rs ≡ length ss) × (X × (((i : ℕ) → i < length rs → get_or rs i 0 < n → Root (nodes_in n (arena_part l wf)) n (get_or rs i 0)) × ((i : ℕ) → i < length ss → get_or ss i 0 < 2 ^ (8 * b))))))
   trie-asks x =
       let q = trie-ready l wf d h k n b r en eb er 0 (pow_pos (numbers l).S) in
-      (q.0, (few, (long, (x, ((λ i u. subst (λ (o : Option ℕ). IfSome o (λ x. Root (nodes_in n (arena_part l wf)) n x)) (sym (same i (omega (arith, long)))) root), λ i u. (trie-ready l wf d h k n b r en eb er (get_or ss i 0) (hs i u)).1.1.1.1)))))
+      (q.0, (few, (long, (x, ((λ i u v. subst (Root (nodes_in n (arena_part l wf)) n) (sym (same i (omega (arith, long)))) root), λ i u. (trie-ready l wf d h k n b r en eb er (get_or ss i 0) (hs i u)).1.1.1.1)))))
 
   -- and what it says
-  pub trie-each : (fs₀ fs : List ℕ) → ((i : ℕ) → i < length ss → get_or fs i 0 ≡ answer_at (nodes_in n (arena_part l wf)) b (get_or rs i None) (get_or ss i 0) (get_or fs₀ i 0))
+  pub trie-each : (fs₀ fs : List ℕ) → ((i : ℕ) → i < length ss → get_or fs i 0 ≡ answer_at (nodes_in n (arena_part l wf)) n b (get_or rs i 0) (get_or ss i 0) (get_or fs₀ i 0))
       → (i : ℕ) → i < length ss → get_or fs i 0 ≡ cond (mem (get_or ss i 0) (suffixes (numbers l) (seen (numbers l) l) d)) 1 0
   trie-each fs₀ fs says i u =
-      says i u ∙ ap (λ (z : Option ℕ). answer_at (nodes_in n (arena_part l wf)) b z (get_or ss i 0) (get_or fs₀ i 0)) (same i u)
+      says i u ∙ ap (λ (z : ℕ). answer_at (nodes_in n (arena_part l wf)) n b z (get_or ss i 0) (get_or fs₀ i 0)) (same i u)
+      ∙ ap (λ (z : Bool). cond z (cond (mem (get_or ss i 0) (members (nodes_in n (arena_part l wf)) b r)) 1 0) (get_or fs₀ i 0)) (lt-ltb r n root.in-range)
       ∙ ap (λ (z : Bool). cond z 1 0) (trie-says l wf d h k n b r en eb er (get_or ss i 0) (mem (get_or ss i 0) (members (nodes_in n (arena_part l wf)) b r)) refl)
 
 -- A block

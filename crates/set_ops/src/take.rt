@@ -94,7 +94,7 @@ fn in_trie_each(other: &[u64], d: usize, suffixes: &[u64], flags: &mut [u8])
     ensures { (i : ℕ) → i < length suffixes.now → slice_index flags.new i ≡ (if mem (slice_index suffixes.now i) (suffixes_of (numbers other.now) (seen (numbers other.now) other.now) d) then 1 else 0) }
 {
     let shape = read::shape(other);
-    let roots: [Option<usize>; BLOCK] = [Some(read::link(other, d)); BLOCK];
+    let roots: [u64; BLOCK] = [read::link(other, d) as u64; BLOCK];
     let start = other[13] as usize;
     let end = other[15] as usize;
     contains_each(

@@ -1,30 +1,24 @@
--- A walk down a trie level by level. Assumes nothing.
-use Rattle.std.specs.Prelude.{ℕ, zero, suc, ◌-◌, ◌<◌, ◌≤◌, ◌≡◌, Bool, false, cond, List, eqb, length, get_or, Option, Some, None, is_some}
+-- A walk down a trie level by level, where `slots` in place of a node says that there is none. Assumes nothing.
+use Rattle.std.specs.Prelude.{ℕ, zero, suc, ◌-◌, ◌<◌, ◌≤◌, ◌≡◌, Bool, cond, ◌&&◌, List, eqb, ltb, length, get_or}
 use Rattle.region.specs.Nodes.{Nodes}
 use Rattle.region.specs.Tries.{byte_of}
 
--- whether the bit of byte j of s is set in the map of node n
-abbrev pub marked : Nodes → ℕ → ℕ → ℕ → ℕ → Bool
-marked v b s j n = eqb (v.bit n (byte_of b s j)) 1
+-- whether n is a node and the bit of byte j of s is set in its map
+abbrev pub marked : Nodes → ℕ → ℕ → ℕ → ℕ → ℕ → Bool
+marked v slots b s j n = ltb n slots && eqb (v.bit n (byte_of b s j)) 1
 
--- the child of n for byte j of s
-abbrev pub step_of : Nodes → ℕ → ℕ → ℕ → Option ℕ → Option ℕ
-step_of v b s j None = None
-step_of v b s j (Some n) = cond (marked v b s j n) (Some (v.child n (byte_of b s j))) None
+-- the child of n for byte j of s, or none
+abbrev pub step_of : Nodes → ℕ → ℕ → ℕ → ℕ → ℕ → ℕ
+step_of v slots b s j n = cond (marked v slots b s j n) (v.child n (byte_of b s j)) slots
 
 -- where the first j bytes of s lead from r
-abbrev pub reach : Nodes → ℕ → ℕ → ℕ → Option ℕ → Option ℕ
-reach v b s zero r = r
-reach v b s (suc j) r = step_of v b s j (reach v b s j r)
+abbrev pub reach : Nodes → ℕ → ℕ → ℕ → ℕ → ℕ → ℕ
+reach v slots b s zero r = r
+reach v slots b s (suc j) r = step_of v slots b s j (reach v slots b s j r)
 
--- whether the bit of the last byte is set where a walk came
-abbrev pub found_at : Nodes → ℕ → ℕ → Option ℕ → Bool
-found_at v b s None = false
-found_at v b s (Some n) = marked v b s (b - 1) n
-
--- what is left at a place with the root r whose walk came to n
-abbrev pub tell_of : Nodes → ℕ → Option ℕ → ℕ → Option ℕ → ℕ → ℕ
-tell_of v b r s n old = cond (is_some r) (cond (found_at v b s n) 1 0) old
+-- what is left at a place whose walk came to n
+abbrev pub tell_of : Nodes → ℕ → ℕ → ℕ → ℕ → ℕ → ℕ → ℕ
+tell_of v slots b r s n old = cond (ltb r slots) (cond (marked v slots b s (b - 1) n) 1 0) old
 
 -- l' is l with the first k entries changed, each by f and its place
 pub record Changed (f : ℕ → ℕ → ℕ) (k : ℕ) (l l' : List ℕ) : Type 0 where

@@ -1,9 +1,10 @@
 -- A clear prefix has no word; a set one leads to the slot that holds its suffixes. Assumes nothing.
 use Prim.Native.Nat.{ℕ}
-use mathlib.Core.Path.{refl, sym, ap}
+use mathlib.Core.Path.{refl, sym, ap, subst}
 use mathlib.Core.Bool.{false}
 use native.Mathlib.Omega.{arith}
 use lib.Dec.{eqb}
+use Rattle.lens.specs.Found.{FoundAs}
 use Rattle.wordset_lookup.proofs.Looks.{S-high, prefix-fits, clear-answer, slot-fits, slot-used, suffix-fits, set-answer}
 use Rattle.wordset_lookup.proofs.contains.Goals as goal
 
@@ -32,11 +33,12 @@ in_slot-requires c =
     let bits = c.s-bits.result in
     let eb = c.s-bits.ensures in
     let q = c.prefix_of in
+    let found = subst (FoundAs l q.result) c.in-Some.is c.find.ensures in
     record {
       well_formed = c.requires.well_formed;
-      c_bound = slot-fits l c.requires.well_formed w c.requires.w_bound bits eb q.result q.ensures c.in-Some.ensures.0 c.in-Some.c c.in-Some.ensures.1;
-      in_use = slot-used l c.requires.well_formed w c.requires.w_bound bits eb q.result q.ensures c.in-Some.ensures.0 c.in-Some.c c.in-Some.ensures.1;
-      s_bound = suffix-fits l c.requires.well_formed w c.requires.w_bound bits eb q.result q.ensures c.in-Some.ensures.0 c.in-Some.c c.in-Some.ensures.1 c.suffix_of.result c.suffix_of.ensures;
+      c_bound = slot-fits l c.requires.well_formed w c.requires.w_bound bits eb q.result q.ensures found.0 c.in-Some.c found.1;
+      in_use = slot-used l c.requires.well_formed w c.requires.w_bound bits eb q.result q.ensures found.0 c.in-Some.c found.1;
+      s_bound = suffix-fits l c.requires.well_formed w c.requires.w_bound bits eb q.result q.ensures found.0 c.in-Some.c found.1 c.suffix_of.result c.suffix_of.ensures;
     }
 
 pub returns-in-Some : goal.returns-in-Some
@@ -46,7 +48,8 @@ returns-in-Some c =
     let bits = c.s-bits.result in
     let eb = c.s-bits.ensures in
     let q = c.prefix_of in
-    set-answer l c.requires.well_formed w c.requires.w_bound bits eb q.result q.ensures c.in-Some.ensures.0 c.in-Some.c c.in-Some.ensures.1 c.suffix_of.result c.suffix_of.ensures c.in_slot.result c.in_slot.ensures
+    let found = subst (FoundAs l q.result) c.in-Some.is c.find.ensures in
+    set-answer l c.requires.well_formed w c.requires.w_bound bits eb q.result q.ensures found.0 c.in-Some.c found.1 c.suffix_of.result c.suffix_of.ensures c.in_slot.result c.in_slot.ensures
 
 pub returns-in-None : goal.returns-in-None
 returns-in-None c =
@@ -55,4 +58,5 @@ returns-in-None c =
     let bits = c.s-bits.result in
     let eb = c.s-bits.ensures in
     let q = c.prefix_of in
-    clear-answer l c.requires.well_formed w c.requires.w_bound bits eb q.result q.ensures false (sym (ap (λ (z : ℕ). eqb z 1) c.in-None.ensures)) refl
+    let clear = subst (FoundAs l q.result) c.in-None.is c.find.ensures in
+    clear-answer l c.requires.well_formed w c.requires.w_bound bits eb q.result q.ensures false (sym (ap (λ (z : ℕ). eqb z 1) clear)) refl

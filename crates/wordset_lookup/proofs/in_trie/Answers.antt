@@ -4,8 +4,11 @@ use Rattle.wordset_lookup.proofs.in_trie.Goals as goal
 
 pub contains-requires : goal.contains-requires
 contains-requires c =
-    let ready = trie-ready c.args.region.now c.requires.well_formed c.args.c c.requires.c_bound c.requires.is_trie _ _ c.link-root.result c.shape-shape.ensures.slots c.shape-shape.ensures.levels c.link-root.ensures c.args.s c.requires.s_bound in
-    record { tries = ready.0; root = ready.1.0; suffix_bound = ready.1.1.1.1 }
+    record {
+      tries = (trie-ready c.args.region.now c.requires.well_formed c.args.c c.requires.c_bound c.requires.is_trie _ _ c.link-root.result c.shape-shape.ensures.slots c.shape-shape.ensures.levels c.link-root.ensures c.args.s c.requires.s_bound).0;
+      root = (trie-ready c.args.region.now c.requires.well_formed c.args.c c.requires.c_bound c.requires.is_trie _ _ c.link-root.result c.shape-shape.ensures.slots c.shape-shape.ensures.levels c.link-root.ensures c.args.s c.requires.s_bound).1.0;
+      suffix_bound = (trie-ready c.args.region.now c.requires.well_formed c.args.c c.requires.c_bound c.requires.is_trie _ _ c.link-root.result c.shape-shape.ensures.slots c.shape-shape.ensures.levels c.link-root.ensures c.args.s c.requires.s_bound).1.1.1.1;
+    }
 
 pub returns : goal.returns
 returns c = trie-says c.args.region.now c.requires.well_formed c.args.c c.requires.c_bound c.requires.is_trie _ _ c.link-root.result c.shape-shape.ensures.slots c.shape-shape.ensures.levels c.link-root.ensures c.args.s c.contains.result c.contains.ensures

@@ -22,6 +22,6 @@ contains_each-requires c =
       suffixes_len_bound = omega arith;
       roots_len = rooted ∙ sym asked;
       suffixes_in_bounds = omega arith;
-      by_index = part-roots a.root n few (nodes_in a.shape.slots a.arena.now) a.shape.slots c.requires.kept.root;
+      by_index = λ j l _. part-roots (nodes_in a.shape.slots a.arena.now) a.shape.slots a.root n c.requires.kept.root few j l;
       by_index_2 = part-narrow a.shape.b i (i + n) a.suffixes.now c.requires.narrow room;
     }

@@ -1,9 +1,9 @@
 -- Node stack and nodes are the arena that the tries lie in. Assumes nothing.
-use mathlib.Core.Path.{◌∙◌}
+use Prim.Native.Nat.{ℕ, ◌<◌}
+use mathlib.Core.Path.{subst, ◌∙◌}
 use lib.ListN.{get_or}
-use Rattle.std.specs.Prelude.{None}
-use Rattle.wordset_lookup.proofs.Looks.{tries-ready, suffix-ready}
-use Rattle.wordset_lookup.proofs.Meets.{asked, root-there}
+use Rattle.wordset_lookup.proofs.Looks.{tries-ready, root-ready, suffix-ready}
+use Rattle.wordset_lookup.proofs.Meets.{asked}
 use Rattle.wordset_lookup.proofs.each.ask.Goals as goal
 
 pub contains_each-requires : goal.contains_each-requires
@@ -20,7 +20,7 @@ contains_each-requires c =
       suffixes_len_bound = c.requires.suffixes_len_bound;
       roots_len = c.requires.roots_len;
       suffixes_in_bounds = c.requires.suffixes_in_bounds;
-      by_index = (λ i h. root-there l wf n b en eb _ (c.requires.by_index i h));
+      by_index = (λ i h k. root-ready l wf n b en eb _ (c.requires.by_index i h (subst (λ (z : ℕ). get_or c.args.roots.now i 0 < z) en k)));
       by_index_2 = (λ i h. suffix-ready l wf n b en eb _ (c.requires.by_index_2 i h));
     }
 
@@ -28,7 +28,7 @@ pub returns : goal.returns
 returns c =
     let l = c.args.region.now in
     record {
-      each = (λ i h. c.contains_each.ensures.each i h ∙ asked l c.requires.well_formed c.shape-shape.result.slots c.shape-shape.result.b c.shape-shape.ensures.slots c.shape-shape.ensures.levels (get_or c.args.roots.now i None) (get_or c.args.suffixes.now i 0) (get_or c.args.answers.now i 0));
+      each = (λ i h. c.contains_each.ensures.each i h ∙ asked l c.requires.well_formed c.shape-shape.result.slots c.shape-shape.result.b c.shape-shape.ensures.slots c.shape-shape.ensures.levels (get_or c.args.roots.now i 0) (get_or c.args.suffixes.now i 0) (get_or c.args.answers.now i 0));
       long = c.contains_each.ensures.long;
       later = c.contains_each.ensures.later;
     }

@@ -1,6 +1,7 @@
 -- No word is a member where no prefix is set; else what is left after meeting the words the tries say. Assumes nothing.
-use Prim.Native.Nat.{ℕ, ◌≤◌}
-use mathlib.Core.Path.{refl, sym, subst, ◌∙◌}
+use Prim.Native.Nat.{ℕ, ◌-◌, ◌≤◌}
+use mathlib.Core.Path.{◌≡◌, refl, sym, subst, ◌∙◌}
+use native.Mathlib.Omega.{arith}
 use lib.ListN.{length}
 use Rattle.trie_look.proofs.Changes.{left_alone}
 use Rattle.wordset_lookup.proofs.Meets.{none_said, part-long, roots-ready, suffixes-ready, said, later-stays}
@@ -48,18 +49,19 @@ ask-requires c =
     let met = c.meet_each in
     let a = c.args in
     let n = length a.words.now in
+    let zero : n - 0 ≡ n = omega arith in
     let roots = c.meet_each.new.roots in
     let suffixes = c.meet_each.new.suffixes in
     let answers = c.meet_each.new.answers in
-    let wide = part-long a.region.now a.words.now a.answers.now c.requires.words_len_bound roots suffixes answers met.result met.ensures suffixes met.ensures.wide-suffixes in
+    let wide = part-long a.region.now a.words.now a.answers.now c.requires.words_len_bound (n - 0) zero roots suffixes answers met.result met.ensures suffixes met.ensures.wide-suffixes in
     let fit : n ≤ length answers = subst (λ (z : ℕ). n ≤ z) (sym met.ensures.long) c.requires.words_in_bounds in
     record {
       well_formed = c.requires.well_formed;
       suffixes_len_bound = subst (λ (z : ℕ). z ≤ 64) (sym wide) c.requires.words_len_bound;
-      roots_len = part-long a.region.now a.words.now a.answers.now c.requires.words_len_bound roots suffixes answers met.result met.ensures roots met.ensures.wide-roots ∙ sym wide;
+      roots_len = part-long a.region.now a.words.now a.answers.now c.requires.words_len_bound (n - 0) zero roots suffixes answers met.result met.ensures roots met.ensures.wide-roots ∙ sym wide;
       suffixes_in_bounds = subst (λ (z : ℕ). z ≤ length answers) (sym wide) fit;
-      by_index = roots-ready a.region.now a.words.now a.answers.now c.requires.words_len_bound roots suffixes answers met.result met.ensures;
-      by_index_2 = suffixes-ready a.region.now a.words.now a.answers.now c.requires.words_len_bound roots suffixes answers met.result met.ensures;
+      by_index = roots-ready a.region.now a.words.now a.answers.now c.requires.words_len_bound (n - 0) zero roots suffixes answers met.result met.ensures;
+      by_index_2 = suffixes-ready a.region.now a.words.now a.answers.now c.requires.words_len_bound (n - 0) zero roots suffixes answers met.result met.ensures;
     }
 
 pub returns-then-meet_each : goal.returns-then-meet_each
@@ -67,13 +69,14 @@ returns-then-meet_each c =
     let met = c.meet_each in
     let a = c.args in
     let n = length a.words.now in
+    let zero : n - 0 ≡ n = omega arith in
     let roots = c.meet_each.new.roots in
     let suffixes = c.meet_each.new.suffixes in
     let answers = c.meet_each.new.answers in
     record {
-      each = said a.region.now a.words.now a.answers.now c.requires.words_len_bound roots suffixes answers met.result met.ensures c.ask.new.answers c.ask.ensures.each;
+      each = said a.region.now a.words.now a.answers.now c.requires.words_len_bound (n - 0) zero roots suffixes answers met.result met.ensures c.ask.new.answers c.ask.ensures.each;
       long = c.ask.ensures.long ∙ met.ensures.long;
-      later = later-stays a.region.now a.words.now a.answers.now c.requires.words_len_bound roots suffixes answers met.result met.ensures c.ask.new.answers c.ask.ensures.later;
+      later = later-stays a.region.now a.words.now a.answers.now c.requires.words_len_bound (n - 0) zero roots suffixes answers met.result met.ensures c.ask.new.answers c.ask.ensures.later;
     }
 
 pub returns-else-meet_each : goal.returns-else-meet_each

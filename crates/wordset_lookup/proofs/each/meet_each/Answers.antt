@@ -18,8 +18,9 @@ pub meet-lead-requires : goal.meet-lead-requires
 meet-lead-requires c =
     record {
       well_formed = c.requires.well_formed;
+      slots_value = c.n-slots.ensures;
       bits_value = c.s-bits.ensures;
-      w_bound = c.requires.by_index c.loop-i.i c.loop-i-test.true;
+      w_bound = c.requires.by_index c.loop-i.i (omega arith);
     }
 
 pub suffix_of-requires : goal.suffix_of-requires
@@ -30,11 +31,11 @@ loop-i-preserved c =
     let a = c.args in
     let i = c.loop-i.i in
     let m = c.meet-lead in
-    let h : i < length a.words.now = c.loop-i-test.true in
-    rw c.is_some-left.ensures (next a.region.now a.words.now a.answers.now i c.loop-i.left c.loop-i.roots c.loop-i.suffixes c.loop-i.answers c.loop-i.invariant h
-    c.requires.words_len_bound c.requires.words_in_bounds _ refl
+    let h : i < length a.words.now = omega arith in
+    next a.region.now a.words.now a.answers.now i c.loop-i.left c.loop-i.roots c.loop-i.suffixes c.loop-i.answers c.loop-i.invariant h
+    c.requires.words_len_bound c.requires.words_in_bounds c.n-slots.result c.n-slots.ensures _ refl
     c.suffix_of.result (c.suffix_of.ensures ∙ ap (λ (z : ℕ). suffix_of z (get_or a.words.now i 0)) c.s-bits.ensures)
-    m.result.root m.result.answer m.ensures)
+    m.result.root m.result.answer m.ensures
 
 pub shape_of-roots : goal.shape_of-roots
 shape_of-roots c = c.loop-i.invariant.wide-roots ∙ sym c.requires.roots_len
@@ -48,5 +49,5 @@ shape_of-answers c = c.loop-i.invariant.long
 pub returns : goal.returns
 returns c =
     let a = c.args in
-    let e : c.loop-i.i ≡ length a.words.now = omega (arith, c.loop-i.invariant.inside, c.loop-i-test.false) in
+    let e : c.loop-i.i ≡ length a.words.now = omega (arith, c.loop-i.invariant.inside) in
     subst (λ (z : ℕ). Met a.region.now a.words.now a.answers.now z c.loop-i.roots c.loop-i.suffixes c.loop-i.answers c.loop-i.left) e c.loop-i.invariant
