@@ -43,12 +43,34 @@ pub fn keys_of(alloc: Global, b: Batch) -> Result<Vec<u64>, Stop> {
     Ok(keys)
 }
 
-// Does to the script's own list what a command says, and says whether the command answers 1.
-fn follow(own: &mut BTreeSet<u64>, verb: Verb, key: u64) -> Result<bool, AllocFailed<u64>> {
+// The keys of the script's own list from a batch's first key to its last, ascending. Looked for once: to look for each key in the tree takes three times as long.
+pub fn there_of(alloc: Global, own: &BTreeSet<u64>, keys: &[u64]) -> Result<Vec<u64>, Stop> {
+    let mut there = Vec::new(alloc);
+    let (Some(first), Some(last)) = (keys.first(), keys.last()) else {
+        return Ok(there);
+    };
+    for key in own.range(*first..) {
+        if *key > *last {
+            break;
+        }
+        there.push(*key)?;
+    }
+    Ok(there)
+}
+
+// Does to the script's own list what a command says, and says whether the command answers 1. The keys of a batch are all different, so its commands leave `there` true for the keys behind them.
+fn follow(
+    own: &mut BTreeSet<u64>,
+    there: &[u64],
+    verb: Verb,
+    key: u64,
+) -> Result<bool, AllocFailed<u64>> {
+    let member = there.binary_search(&key).is_ok();
     match verb {
-        Verb::Look => Ok(own.contains(&key)),
+        Verb::Look => Ok(member),
+        Verb::Cache if member => Ok(false),
         Verb::Cache => own.insert(key),
-        Verb::Delete => Ok(own.remove(&key)),
+        Verb::Delete => Ok(member && own.remove(&key)),
     }
 }
 
@@ -66,6 +88,7 @@ pub fn run(
     alloc: Global,
     region: &mut [u64],
     own: &mut BTreeSet<u64>,
+    there: &[u64],
     b: Batch,
     keys: &[u64],
 ) -> Result<Ran, Stop> {
@@ -76,7 +99,7 @@ pub fn run(
         let told = wordset_list::list(region, &codes, list, &mut answers);
         let done = done_of(told, list.len());
         for (key, answer) in list.iter().zip(answers.iter()).take(done) {
-            ran.one_more(*answer == 1, follow(own, b.verb, *key)?);
+            ran.one_more(*answer == 1, follow(own, there, b.verb, *key)?);
         }
         if let Err(refusal) = told {
             return Err(Stop::Partly {

@@ -58,10 +58,16 @@ impl Desk {
     }
 
     // Whether a batch would take the script's own list past its end.
-    fn has_room(&self, b: Batch, keys: &[u64]) -> Result<(), Stop> {
+    fn has_room(&self, b: Batch, own_there: &[u64], keys: &[u64]) -> Result<(), Stop> {
+        if b.verb != Verb::Cache {
+            return Ok(());
+        }
         let there = self.own.len();
-        let new = keys.iter().filter(|&key| !self.own.contains(key)).count();
-        if b.verb == Verb::Cache && new > MOST_KEYS.saturating_sub(there) {
+        let new = keys
+            .iter()
+            .filter(|&key| own_there.binary_search(key).is_err())
+            .count();
+        if new > MOST_KEYS.saturating_sub(there) {
             return Err(Stop::TooMany { there, new });
         }
         Ok(())
@@ -86,11 +92,12 @@ impl Desk {
 
     fn frames(&mut self, rt: &impl Print, b: Batch) -> Result<(), Stop> {
         let keys = batch::keys_of(self.alloc, b)?;
-        self.has_room(b, &keys)?;
+        let there = batch::there_of(self.alloc, &self.own, &keys)?;
+        self.has_room(b, &there, &keys)?;
         let Some(region) = &mut self.region else {
             return Err(Stop::Expected(Expected::Region));
         };
-        let ran = batch::run(self.alloc, region, &mut self.own, b, &keys)?;
+        let ran = batch::run(self.alloc, region, &mut self.own, &there, b, &keys)?;
         self.answered(rt, b, ran)?;
         Ok(())
     }

@@ -8,9 +8,10 @@ use std::io;
 // A walk is not taken further than this: a script's keys are at most 8,192.
 const FAR: usize = 65536;
 
-// The keys of a region, in the order of its walk.
+// The keys of a region, in the order of its walk. There is room for as many as its header says: of a region that is not well formed the walk is refused.
 pub fn keys_of(alloc: Global, region: &[u64]) -> Result<Vec<u64>, Stop> {
-    let mut keys = vec![in alloc; 0u64; FAR]?;
+    let said = region.get(7).map_or(0, |count| *count as usize);
+    let mut keys = vec![in alloc; 0u64; said.min(FAR)]?;
     let many = wordset_walk::walk(region, 0, &mut keys).map_err(Refusal::from)?;
     keys.truncate(many);
     Ok(keys)

@@ -1,18 +1,16 @@
 -- Which field is the first out of range, as bounds on the fields: one law for each answer, and what no bad field says. Assumes nothing.
-use mathlib.Core.Path.{◌≡◌, refl, sym, subst}
-use mathlib.Core.Bool.{Bool, true, false, not, ◌&&◌}
+use mathlib.Core.Path.{◌≡◌, refl, sym}
+use mathlib.Core.Bool.{Bool, true, false, ◌&&◌}
 use mathlib.Core.List.{List, [], ◌∷◌}
 use Prim.Native.Nat.{ℕ, ◌<◌, ◌≤◌}
 use native.Mathlib.Omega.{arith}
-use lib.Dec.{leb, ltb}
+use lib.Dec.{leb}
 use lib.ListN.{length}
-use borrow.Author.Tests.{le-leb, lt-leb, leb-true, ltb-true, ltb-false}
-use Rattle.std.specs.Prelude.{Option}
-use Rattle.std.specs.List.{position, position_or_len}
+use borrow.Author.Tests.{le-leb, lt-leb, leb-true}
 use Rattle.lists.specs.Lists.{between, first_bad, Every}
-use Rattle.lists.proofs.Laws.{and_both, by-test}
+use Rattle.lists.proofs.Laws.{and_both}
 use Rattle.model.specs.Keys.{Fields, good_card, good_rollover, good_folder, good_frame, in_range}
-use Rattle.keys.specs.Range.{first_out, OutAt}
+use Rattle.keys.specs.Range.{first_out}
 
 -- every field is in range
 pub record InRange (f : Fields) : Type 0 where
@@ -46,9 +44,15 @@ bounds lo hi x e =
 
 -- the answers, from the top: each test that was passed is rewritten to true, and the one that was not to false
 module _ (f : Fields) where
+  pub out-card : 4095 < f.card → 0 ≡ first_out f
+  out-card h = rw (over 0 4095 f.card h)
+
   module _ (c : f.card ≤ 4095) where
     card-in : good_card f.card ≡ true
     card-in = inside 0 4095 f.card (omega arith) c
+
+    pub out-rollover : 7 < f.rollover → 1 ≡ first_out f
+    out-rollover h = rw (card-in, over 0 7 f.rollover h)
 
     module _ (r : f.rollover ≤ 7) where
       rollover-in : good_rollover f.rollover ≡ true
@@ -70,6 +74,9 @@ module _ (f : Fields) where
         module _ (m : f.frame ≤ 9999) where
           frame-in : good_frame f.frame ≡ true
           frame-in = inside 0 9999 f.frame (omega arith) m
+
+          pub out-kind : 1 < f.kind → 4 ≡ first_out f
+          out-kind h = rw (card-in, rollover-in, folder-in, frame-in, over 0 1 f.kind h)
 
           pub out_none : f.kind ≤ 1 → 5 ≡ first_out f
           out_none k = rw (card-in, rollover-in, folder-in, frame-in, inside 0 1 f.kind (omega arith) k)
@@ -103,18 +110,3 @@ in-range f e =
 
 pub none_out : (f : Fields) → InRange f → first_out f ≡ 5
 none_out f i = sym (out_none f i.card i.rollover i.folder-low i.folder i.frame i.kind)
-
--- looking for the first test that fails finds this place
-
-place-is : (bs : List Bool) → position_or_len not bs ≡ first_bad (λ ok. ok) bs
-place-is [] = refl
-place-is (true ∷ bs) = let h = place-is bs in omega arith
-place-is (false ∷ bs) = refl
-
-pub out_at : (f : Fields) (r : Option ℕ) → r ≡ position not (in_range f) → OutAt f r
-out_at f r e = subst (OutAt f) (sym e) (by-test (ltb (position_or_len not (in_range f)) 5)
-    (λ t. let k = ltb-true (position_or_len not (in_range f)) 5 t in rw t (place-is (in_range f), k))
-    (λ t. let k = ltb-false (position_or_len not (in_range f)) 5 t in let p = place-is (in_range f) in let m = out-le f in rw t (omega arith)))
-
-pub same_tests : {a b c d e a' b' c' d' e' : Bool} → a ≡ a' → b ≡ b' → c ≡ c' → d ≡ d' → e ≡ e' → a ∷ b ∷ c ∷ d ∷ e ∷ [] ≡ a' ∷ b' ∷ c' ∷ d' ∷ e' ∷ []
-same_tests p q r s t = rw (p, q, r, s, t) refl

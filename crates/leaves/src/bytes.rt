@@ -1,4 +1,4 @@
-// A suffix as bytes. How many there are is known when a call comes, and the functions that do the work have it as a parameter.
+// A suffix as bytes. How many there are is known when a call comes, and the functions that do the work have it as a const parameter, since that is faster.
 ghost use Rattle.std.specs.Prelude.{◌≤◌};
 
 use super::REFUSED;
@@ -14,7 +14,7 @@ fn put_each<const BYTES: usize>(suffixes: &[u64], out: &mut [u8]) -> u64
         if out.len() - at < BYTES {
             return i as u64;
         }
-        out[at..at + BYTES].copy_from_slice(&SlicedInt::<BYTES>::from_int(s).bytes);
+        out[at..at + BYTES].copy_from_slice(&SlicedInt::from_int(s, BYTES).bytes[..BYTES]);
         at += BYTES;
     }
     suffixes.len() as u64
@@ -23,13 +23,13 @@ fn put_each<const BYTES: usize>(suffixes: &[u64], out: &mut [u8]) -> u64
 fn value<const BYTES: usize>(s: u64) -> u64
     requires { BYTES ≤ 5 }
 {
-    SlicedInt::<BYTES>::from_int(s).to_int()
+    SlicedInt::from_int(s, BYTES).to_int()
 }
 
 fn order<const BYTES: usize>(s: u64, t: u64) -> u64
     requires { BYTES ≤ 5 }
 {
-    match SlicedInt::<BYTES>::from_int(s).compare(SlicedInt::<BYTES>::from_int(t)) {
+    match SlicedInt::from_int(s, BYTES).compare(SlicedInt::from_int(t, BYTES)) {
         Ordering::Less => 0,
         Ordering::Equal => 1,
         Ordering::Greater => 2,

@@ -57,8 +57,12 @@ pub(crate) fn checked(arena: &[u64], slots: u64, used: u64, b: u64) -> Option<Sh
 pub(crate) fn rooted(arena: &[u64], slots: u64, used: u64, b: u64, root: u64) -> Option<Shape>
     ensures { IfSome result (λ s. Shaped slots b s × Measured s.slots s.b arena.now × Kept s.slots s.b root used arena.now) }
 {
+    // before the nodes are gone through
+    if root >= slots {
+        return None;
+    }
     let shape = checked(arena, slots, used, b)?;
-    if root >= slots || read::level1(arena, shape.slots, root as usize) != 1 {
+    if read::level1(arena, shape.slots, root as usize) != 1 {
         return None;
     }
     Some(shape)

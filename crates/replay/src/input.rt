@@ -1,7 +1,8 @@
 // What a replay reads.
-ghost use Rattle.std.specs.Prelude.{◌<◌, ◌≤◌, length, take, IfOk};
+ghost use Rattle.std.specs.Prelude.{◌<◌, ◌≤◌, length, take, IfOk, vec_len, vec_items};
 ghost use Rattle.std.specs.Io.KnownBytes.{Consumes, IsAtEnd};
 
+use std::alloc::Global;
 use std::io;
 use std::io::Read;
 
@@ -22,10 +23,21 @@ pub fn fill<R: Read>(input: &mut R, buffer: &mut [u8]) -> io::Result<usize>
     Ok(done)
 }
 
-// Reads the input to its end, or its first `most` bytes.
-pub fn read<R: Input + AllocGlobal>(rt: &R, most: usize) -> io::Result<Vec<u8>> {
-    let mut text = vec![in rt.alloc(); 0u8; most]?;
-    let n = fill(&mut rt.reader(), &mut text)?;
+// The same, into a vector: the input to its end, or its first `most` bytes.
+pub fn bytes_of<R: Read>(alloc: Global, input: &mut R, most: usize) -> io::Result<Vec<u8>>
+    ensures bound { IfOk result (λ text. vec_len text ≤ most) }
+    ensures bytes { IfOk result (λ text. Consumes (R.remaining input.old) (R.remaining input.new) (vec_items text)) }
+    ensures end { IfOk result (λ text. vec_len text < most → IsAtEnd (R.remaining input.new)) }
+{
+    let mut text = vec![in alloc; 0u8; most]?;
+    let n = fill(input, &mut text)?;
     text.truncate(n);
     Ok(text)
+}
+
+// The standard input, likewise.
+pub fn read<R: Input + AllocGlobal>(rt: &R, most: usize) -> io::Result<Vec<u8>>
+    ensures { IfOk result (λ text. vec_len text ≤ most) }
+{
+    bytes_of(rt.alloc(), &mut rt.reader(), most)
 }

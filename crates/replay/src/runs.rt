@@ -72,20 +72,30 @@ pub fn words_of(alloc: Global, start: u64, step: u64, many: u64) -> Result<Vec<u
         .collect(alloc)
 }
 
-// The words of the runs, one behind the other. They are fewer than 4,096, and each run has some.
-pub fn spread(alloc: Global, runs: &[u64]) -> Result<Vec<u64>, Stop>
-    ensures { IfOk result (λ v. vec_len v ≤ 4096) }
-{
-    let mut words = Vec::new(alloc);
-    for run in runs.chunks_exact(3) {
-        let &[start, step, many] = run else {
-            return Err(Stop::BadNumbers);
-        };
-        let after = many.saturating_add(words.len() as u64);
-        if many == 0 || after >= MOST as u64 {
-            return Err(Stop::BadNumbers);
-        }
-        words.extend_from_slice(&words_of(alloc, start, step, many)?)?;
+// Words each `step` after the one before.
+pub fn fill(words: &mut [u64], start: u64, step: u64) {
+    let mut w = start;
+    for word in words.iter_mut() {
+        *word = w;
+        w = w.wrapping_add(step);
     }
-    Ok(words)
+}
+
+// The words of the runs, one behind the other, and how many they are; 4,096 where there are as many or more, or a run has none.
+pub fn spread(runs: &[u64], words: &mut [u64; MOST]) -> usize
+    ensures { result ≤ 4096 }
+{
+    let mut many = 0;
+    for run in runs.chunks_exact(3) {
+        let &[start, step, more] = run else {
+            return MOST;
+        };
+        if more == 0 || more >= (MOST - many) as u64 {
+            return MOST;
+        }
+        let after = many + more as usize;
+        fill(&mut words[many..after], start, step);
+        many = after;
+    }
+    many
 }

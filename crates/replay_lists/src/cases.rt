@@ -5,8 +5,8 @@ use replay::stop::Stop;
 use replay::tally::Tally;
 use std::alloc::Global;
 
-// The words of the largest region that a case is replayed in.
-const WORDS: usize = 524288;
+// The words of the largest region that a case is replayed in. All cases have their regions at the front of the same words, one after the other.
+pub const WORDS: usize = 524288;
 
 // The rows that count what is passed over.
 pub const PASSED_CASE: u64 = 90;
@@ -14,25 +14,24 @@ pub const PASSED_CASE: u64 = 90;
 pub const PASSED_LINE: u64 = 91;
 
 // Where a line stands: before the first case, in one that is replayed in a region, in one that is passed over.
-#[derive(Drop)]
+#[derive(Clone, Copy, Debug, PartialEq, Eq)]
 pub enum Case {
     Before,
-    Open(Vec<u64>),
+    Open,
     Passed,
 }
 
 // Opens the case `0 P S C N r`: a fresh region with exactly that room.
 fn open(
     rt: &impl Print,
-    alloc: Global,
     tally: &mut Tally,
+    region: &mut [u64],
     [p, s, c, n]: [u64; 4],
 ) -> Result<Case, Stop> {
-    let mut region = vec![in alloc; 0u64; WORDS]?;
-    match make::make(&mut region, p, s, c, n) {
+    match make::make(region, p, s, c, n) {
         Ok(()) => {
             tally.judge(rt, 0, &[], &[])?;
-            Ok(Case::Open(region))
+            Ok(Case::Open)
         }
         Err(MakeRefusal::TooShort) => {
             tally.judge(rt, PASSED_CASE, &[], &[])?;
@@ -64,15 +63,16 @@ pub fn carry_out(
     alloc: Global,
     tally: &mut Tally,
     case: &mut Case,
+    region: &mut [u64],
     line: &[u64],
 ) -> Result<(), Stop> {
-    match (line, &mut *case) {
+    match (line, *case) {
         ([0, p, s, c, n, _], _) => {
-            *case = open(rt, alloc, tally, [*p, *s, *c, *n])?;
+            *case = open(rt, tally, region, [*p, *s, *c, *n])?;
             Ok(())
         }
         ([0, ..], _) => Err(Stop::BadNumbers),
-        (_, Case::Open(region)) => replayed(rt, alloc, tally, region, line),
+        (_, Case::Open) => replayed(rt, alloc, tally, region, line),
         (_, Case::Passed) => tally.judge(rt, PASSED_LINE, &[], &[]),
         (_, Case::Before) => {
             tally.say(rt, "no case was opened before this line")?;

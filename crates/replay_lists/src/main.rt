@@ -18,10 +18,11 @@ use std::io;
 const LONGEST: usize = 262144;
 
 fn all_lines(rt: &impl Print, alloc: Global, tally: &mut Tally, text: &[u8]) -> Result<(), Stop> {
+    let mut region = vec![in alloc; 0u64; cases::WORDS]?;
     let mut case = Case::Before;
     for line in text.split_inclusive(|b| *b == b'\n') {
         if let Some(numbers) = tally.take(line)? {
-            cases::carry_out(rt, alloc, tally, &mut case, &numbers)?;
+            cases::carry_out(rt, alloc, tally, &mut case, &mut region, &numbers)?;
         }
     }
     tally.at_end()

@@ -30,6 +30,6 @@ pub fn line(
     let came = walked(rt, alloc, tally, region)?;
     match line {
         [3, ..] => walks::in_words(rt, tally, line, &came),
-        _ => walks::in_runs(rt, alloc, tally, line, &came),
+        _ => walks::in_runs(rt, tally, line, &came),
     }
 }

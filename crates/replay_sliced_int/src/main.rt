@@ -26,29 +26,25 @@ fn order_of(order: Ordering) -> u64 {
 }
 
 // What an operation on suffixes of so many bytes comes to, and what is recorded of it.
-fn on_bytes<const BYTES: usize>(
-    alloc: Global,
-    op: u64,
-    line: &[u64],
-) -> Result<(Vec<u64>, &[u64]), Stop>
-    requires { BYTES ≤ 5 }
+fn on_bytes(alloc: Global, op: u64, b: usize, line: &[u64]) -> Result<(Vec<u64>, &[u64]), Stop>
+    requires { b ≤ 5 }
 {
     match (op, line) {
         (1, [v, recorded @ ..]) if !recorded.is_empty() => {
-            let x = SlicedInt::<BYTES>::from_int(*v);
+            let x = SlicedInt::from_int(*v, b);
             let mut bytes = Vec::new(alloc);
-            for j in 0..BYTES {
+            for j in 0..b {
                 bytes.push(x.get(j) as u64)?;
             }
             Ok((bytes, recorded))
         }
         (2, [v, recorded @ ..]) if !recorded.is_empty() => {
-            let number = SlicedInt::<BYTES>::from_int(*v).to_int();
+            let number = SlicedInt::from_int(*v, b).to_int();
             Ok((vec![in alloc; number]?, recorded))
         }
         (3, [u, v, recorded @ ..]) => {
-            let x = SlicedInt::<BYTES>::from_int(*u);
-            let order = x.compare(SlicedInt::from_int(*v));
+            let x = SlicedInt::from_int(*u, b);
+            let order = x.compare(SlicedInt::from_int(*v, b));
             Ok((vec![in alloc; order_of(order)]?, recorded))
         }
         _ => Err(Stop::BadNumbers),
@@ -72,11 +68,7 @@ fn on_words(alloc: Global, op: u64, line: &[u64]) -> Result<(Vec<u64>, &[u64]), 
 // The same for any operation. A suffix has 1 to 5 bytes.
 fn answered(alloc: Global, op: u64, line: &[u64]) -> Result<(Vec<u64>, &[u64]), Stop> {
     match (op, line) {
-        (1..=3, [1, line @ ..]) => on_bytes::<1>(alloc, op, line),
-        (1..=3, [2, line @ ..]) => on_bytes::<2>(alloc, op, line),
-        (1..=3, [3, line @ ..]) => on_bytes::<3>(alloc, op, line),
-        (1..=3, [4, line @ ..]) => on_bytes::<4>(alloc, op, line),
-        (1..=3, [5, line @ ..]) => on_bytes::<5>(alloc, op, line),
+        (1..=3, [b @ 1..=5, line @ ..]) => on_bytes(alloc, op, *b as usize, line),
         (1..=3, _) => Err(Stop::BadNumbers),
         (4 | 5, _) => on_words(alloc, op, line),
         _ => Err(Stop::Unknown(op)),

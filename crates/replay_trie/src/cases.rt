@@ -64,7 +64,7 @@ fn in_case(
 ) -> Result<(), Stop> {
     match line {
         [3, ..] => walks::in_words(rt, tally, line, &tree.walk(alloc)?),
-        [4, ..] => walks::in_runs(rt, alloc, tally, line, &tree.walk(alloc)?),
+        [4, ..] => walks::in_runs(rt, tally, line, &tree.walk(alloc)?),
         [5, recorded @ ..] => tally.judge(rt, 5, recorded, &[tree.count()]),
         [6, recorded @ ..] => tally.judge(rt, 6, recorded, &[tree.nodes()]),
         [op, ..] => commands(rt, alloc, tally, tree, *op, line),
@@ -86,7 +86,10 @@ pub fn carry_out(
                 slots: tree::SLOTS,
                 b: *b as usize,
             };
-            *case = Some(Tree::new(alloc, shape)?);
+            *case = Some(match case.take() {
+                Some(tree) => tree.anew(shape),
+                None => Tree::new(alloc, shape)?,
+            });
             tally.judge(rt, 0, &[], &[])
         }
         ([0, ..], _) => Err(Stop::BadNumbers),

@@ -31,18 +31,20 @@ pub struct Tree {
     root: Option<usize>,
 }
 
-// An arena with all nodes free, node 0 on top of the stack.
-fn free_arena(alloc: Global) -> Result<Vec<u64>, AllocError> {
-    let mut arena = vec![in alloc; 0u64; WORDS]?;
+// Makes all nodes free, node 0 on top of the stack. What is not looked at in a free node stays.
+fn lay(arena: &mut [u64]) {
+    if arena.len() != WORDS {
+        return;
+    }
     let (stack, nodes) = arena.split_at_mut(SLOTS);
     for (n, place) in stack.iter_mut().rev().enumerate() {
         *place = n as u64;
     }
     let (nodes, _) = nodes.as_chunks_mut::<NODE_WORDS>();
     for (place, node) in (0..SLOTS as u64).rev().zip(nodes.iter_mut()) {
+        node[4] = 0;
         node[5] = place;
     }
-    Ok(arena)
 }
 
 // Whether it is an arena of such tries with so many nodes in use.
@@ -77,12 +79,23 @@ fn has_bytes(x: u64, shape: Shape) -> bool
 
 impl Tree {
     pub fn new(alloc: Global, shape: Shape) -> Result<Self, AllocError> {
+        let mut arena = vec![in alloc; 0u64; WORDS]?;
+        lay(&mut arena);
         Ok(Self {
-            arena: free_arena(alloc)?,
+            arena,
             shape,
             used: 0,
             root: None,
         })
+    }
+
+    // An empty one in the same words: a case costs no allocation.
+    pub fn anew(mut self, shape: Shape) -> Self {
+        lay(&mut self.arena);
+        self.shape = shape;
+        self.used = 0;
+        self.root = None;
+        self
     }
 
     // The first suffix makes the trie.

@@ -1,17 +1,17 @@
 -- The bytes of s are put down one by one: below j they stand, from j on there are zeros. Assumes nothing.
-use mathlib.Core.Path.{◌≡◌, refl, ap, ◌∙◌}
-use mathlib.Core.List.{List}
+use mathlib.Core.Path.{◌≡◌, refl, ◌∙◌}
+use mathlib.Core.List.{List, [], ◌∷◌}
 use Prim.Native.Nat.{ℕ, zero, suc, ◌+◌, ◌<◌, ◌≤◌}
 use native.Mathlib.Decide.{ℕ_discrete}
 use native.Mathlib.Omega.{arith}
-use lib.ListN.{length, replicate, get_or, set, length-set, length-replicate}
+use lib.ListN.{length, replicate, get_or, set, length-set}
 use lib.Seq.{get_or-set_same, get_or-set_other}
 use Rattle.region.specs.Tries.{byte_of}
-use Rattle.sliced_int.specs.Sliced.{Sliced, number_in}
+use Rattle.sliced_int.specs.Sliced.{Sliced}
 use Rattle.sliced_int.proofs.Laws.{same_number, all-bytes}
 
 pub record Filled (b s : ℕ) (bytes : List ℕ) (j : ℕ) : Type 0 where
-  pub long : length bytes ≡ b
+  pub long : length bytes ≡ 5
   pub done : (i : ℕ) → i < j → get_or bytes i 0 ≡ byte_of b s i
   pub rest : (i : ℕ) → j ≤ i → get_or bytes i 0 ≡ 0
 
@@ -20,11 +20,11 @@ zeros zero i = refl
 zeros (suc n) zero = refl
 zeros (suc n) (suc i) = zeros n i
 
-pub filled_none : (b s : ℕ) → Filled b s (replicate b 0) 0
-filled_none b s = record { long = length-replicate b 0; done = λ i (h : i < 0). absurd (omega arith); rest = λ i h. zeros b i }
+pub filled_none : (b s : ℕ) → Filled b s (0 ∷ 0 ∷ 0 ∷ 0 ∷ 0 ∷ []) 0
+filled_none b s = record { long = refl; done = λ i (h : i < 0). absurd (omega arith); rest = λ i h. zeros 5 i }
 
 -- the next byte
-pub filled_next : (b s : ℕ) (bytes : List ℕ) (j v : ℕ) → j < b → v ≡ byte_of b s j → Filled b s bytes j → Filled b s (set bytes j v) (j + 1)
+pub filled_next : (b s : ℕ) (bytes : List ℕ) (j v : ℕ) → j < 5 → v ≡ byte_of b s j → Filled b s bytes j → Filled b s (set bytes j v) (j + 1)
 filled_next b s bytes j v l e f =
     record {
       long = length-set bytes j v ∙ f.long;
@@ -39,11 +39,11 @@ filled_next b s bytes j v l e f =
     done_at i h (no q) = get_or-set_other bytes j i v 0 q ∙ f.done i (omega arith)
 
 -- all b bytes are the number
-pub filled-all : (b s : ℕ) (bytes : List ℕ) → Filled b s bytes b → Sliced b s (record { bytes = bytes })
+pub filled-all : (b s : ℕ) (bytes : List ℕ) → Filled b s bytes b → Sliced b s (record { bytes = bytes; len = b })
 filled-all b s bytes f =
     record {
-      len = f.long;
+      len = refl;
       bytes = f.done;
       rest = f.rest;
-      whole = λ h. ap (number_in bytes) f.long ∙ same_number (λ i. get_or bytes i 0) (byte_of b s) b f.done ∙ all-bytes b s h;
+      whole = λ h. same_number (λ i. get_or bytes i 0) (byte_of b s) b f.done ∙ all-bytes b s h;
     }

@@ -2,3 +2,4 @@ pub mod Laws
 pub mod Bytewise
 pub mod Orders
 pub mod Filling
+pub mod Taken

@@ -48,7 +48,7 @@ means x y o e = go (dec_lt x y) (dec_lt y x)
     go (no l) (no g) = let q : x ≡ y = omega arith in subst (Means x y) (is-equal x y q ∙ e) q
 
 -- two suffixes of b bytes, sliced, compare as they do themselves
-pub sliced-order : (b s t : ℕ) (x y : SlicedInt b) → Sliced b s x → Sliced b t y → s < 2 ^ (8 * b) → t < 2 ^ (8 * b) → order_of (value_of x) (value_of y) ≡ order_of s t
+pub sliced-order : (b s t : ℕ) (x y : SlicedInt) → Sliced b s x → Sliced b t y → s < 2 ^ (8 * b) → t < 2 ^ (8 * b) → order_of (value_of x) (value_of y) ≡ order_of s t
 sliced-order b s t x y p q hs ht = rw (p.whole hs, q.whole ht)
 
 module _ (x y : ℕ) (xs ys : List ℕ) (n : ℕ) where

@@ -17,46 +17,48 @@ pub fn byte(s: u64, b: usize, j: usize) -> usize
     ((s >> (8 * behind)) & 255) as usize
 }
 
-// A suffix of BYTES bytes, the most significant first; those of a word have at most 40 bits.
+// The first len of the bytes are the suffix, which has at most 40 bits: `b` is known when a call comes, so len is a number and no const parameter.
 #[derive(Clone, Copy, Debug, PartialEq, Eq)]
-pub struct SlicedInt<const BYTES: usize> {
-    pub bytes: [u8; BYTES],
+pub struct SlicedInt {
+    pub bytes: [u8; 5],
+    pub len: usize,
 }
 
-impl<const BYTES: usize> SlicedInt<BYTES> {
-    pub fn from_int(s: u64) -> Self
-        requires { BYTES ≤ 5 }
-        ensures { Sliced BYTES s result }
+impl SlicedInt {
+    pub fn from_int(s: u64, b: usize) -> Self
+        requires { b ≤ 5 }
+        ensures { Sliced b s result }
     {
-        let mut bytes = [0u8; BYTES];
-        for (j, x) in bytes.iter_mut().enumerate() {
-            *x = byte(s, BYTES, j) as u8;
+        let mut bytes = [0u8; 5];
+        for j in 0..b {
+            bytes[j] = byte(s, b, j) as u8;
         }
-        Self { bytes }
+        Self { bytes, len: b }
     }
 
     pub fn to_int(self) -> u64
-        requires { BYTES ≤ 5 }
-        ensures { result ≡ value_of self.entry }
+        requires { self.len ≤ 5 }
+        ensures { result ≡ value_of self }
     {
         let mut s = 0;
-        for &x in self.bytes.iter() {
+        for &x in &self.bytes[..self.len] {
             s = s * 256 + u64::from(x);
         }
         s
     }
 
     pub fn get(self, j: usize) -> usize
-        requires { j < BYTES }
-        ensures { result ≡ get_or self.entry.bytes j 0 }
+        requires { (j < self.len) × (self.len ≤ 5) }
+        ensures { result ≡ get_or self.bytes j 0 }
     {
         self.bytes[j] as usize
     }
 
     // From the most significant byte: the first that differs decides.
     pub fn compare(self, other: Self) -> Ordering
-        ensures { result ≡ order_of (value_of self.entry) (value_of other.entry) }
+        requires { (self.len ≤ 5) × (other.len ≡ self.len) }
+        ensures { result ≡ order_of (value_of self) (value_of other) }
     {
-        self.bytes.cmp(&other.bytes)
+        self.bytes[..self.len].cmp(&other.bytes[..other.len])
     }
 }

@@ -42,12 +42,13 @@ pub fn put(region: &mut [u64], c: usize, s: u64) -> Result<bool, NoRoom>
     let more = region[7] + 1;
     let start = region[13] as usize;
     let end = region[15] as usize;
-    match insert(&mut region[start..end], shape, used, root, s)? {
-        Some(left) => {
+    match insert(&mut region[start..end], shape, used, root, s) {
+        Ok(Some(left)) => {
             settle(region, c, grown, left, more);
             Ok(true)
         }
-        None => Ok(false),
+        Ok(None) => Ok(false),
+        Err(NoRoom) => Err(NoRoom),
     }
 }
 

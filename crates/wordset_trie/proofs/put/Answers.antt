@@ -2,7 +2,6 @@
 use mathlib.Core.Path.{ap, ◌∙◌}
 use native.Mathlib.Omega.{arith}
 use Rattle.std.specs.Prelude.{Ok}
-use Rattle.std.proofs.lemmas.Result.{err_from_is_err_and}
 use Rattle.wordset_vector.proofs.Counting.{count_small}
 use Rattle.wordset_trie.proofs.Lent.{size-counted, asked-arena, asked-root, asked-suffix}
 use Rattle.wordset_trie.proofs.Putting.{put-ready, put-new, put-old, put_full}
@@ -25,17 +24,15 @@ insert-requires c =
 pub settle-requires : goal.settle-requires
 settle-requires c =
     record {
-      ready = (put-ready c.args.region.now c.requires.well_formed c.args.c c.requires.c_bound c.requires.c_value c.link-root.result c.args.s c.insert.result c.insert.new.arena c.link-root.ensures _ _ c.shape-shape.ensures.slots c.shape-shape.ensures.levels c.insert.ensures (c.in_ok-left.was ∙ ap Ok c.in-Some.is)).0;
-      c_bound = (put-ready c.args.region.now c.requires.well_formed c.args.c c.requires.c_bound c.requires.c_value c.link-root.result c.args.s c.insert.result c.insert.new.arena c.link-root.ensures _ _ c.shape-shape.ensures.slots c.shape-shape.ensures.levels c.insert.ensures (c.in_ok-left.was ∙ ap Ok c.in-Some.is)).1;
+      ready = (put-ready c.args.region.now c.requires.well_formed c.args.c c.requires.c_bound c.requires.c_value c.link-root.result c.args.s c.insert.result c.insert.new.arena c.link-root.ensures _ _ c.shape-shape.ensures.slots c.shape-shape.ensures.levels c.insert.ensures (c.in-Ok-Some.is ∙ ap Ok c.in-Ok-Some.field-0-is)).0;
+      c_bound = (put-ready c.args.region.now c.requires.well_formed c.args.c c.requires.c_bound c.requires.c_value c.link-root.result c.args.s c.insert.result c.insert.new.arena c.link-root.ensures _ _ c.shape-shape.ensures.slots c.shape-shape.ensures.levels c.insert.ensures (c.in-Ok-Some.is ∙ ap Ok c.in-Ok-Some.field-0-is)).1;
     }
 
-pub returns-in-Some : goal.returns-in-Some
-returns-in-Some c = put-new c.args.region.now c.requires.well_formed c.args.c c.requires.c_bound c.requires.c_value c.link-root.result c.args.s c.insert.result c.insert.new.arena c.link-root.ensures _ _ c.shape-shape.ensures.slots c.shape-shape.ensures.levels c.insert.ensures (c.in_ok-left.was ∙ ap Ok c.in-Some.is) c.requires.s_bound c.settle.ensures (omega (arith, c.size-len.ensures)) (omega arith)
+pub returns-in-Ok-Some : goal.returns-in-Ok-Some
+returns-in-Ok-Some c = put-new c.args.region.now c.requires.well_formed c.args.c c.requires.c_bound c.requires.c_value c.link-root.result c.args.s c.insert.result c.insert.new.arena c.link-root.ensures _ _ c.shape-shape.ensures.slots c.shape-shape.ensures.levels c.insert.ensures (c.in-Ok-Some.is ∙ ap Ok c.in-Ok-Some.field-0-is) c.requires.s_bound c.settle.ensures (omega (arith, c.size-len.ensures)) (omega arith)
 
-pub returns-in-None : goal.returns-in-None
-returns-in-None c = put-old c.args.region.now c.requires.well_formed c.args.c c.requires.c_bound c.requires.c_value c.link-root.result c.args.s c.insert.result c.insert.new.arena c.link-root.ensures _ _ c.shape-shape.ensures.slots c.shape-shape.ensures.levels c.insert.ensures (c.in_ok-left.was ∙ ap Ok c.in-None.is)
+pub returns-in-Ok-None : goal.returns-in-Ok-None
+returns-in-Ok-None c = put-old c.args.region.now c.requires.well_formed c.args.c c.requires.c_bound c.requires.c_value c.link-root.result c.args.s c.insert.result c.insert.new.arena c.link-root.ensures _ _ c.shape-shape.ensures.slots c.shape-shape.ensures.levels c.insert.ensures (c.in-Ok-None.is ∙ ap Ok c.in-Ok-None.field-0-is)
 
-pub returns-in_err-left : goal.returns-in_err-left
-returns-in_err-left c =
-    let p = err_from_is_err_and c.from_residual.result c.from_residual.ensures.1 in
-    rw p.1 (put_full c.args.region.now c.requires.well_formed c.args.c c.requires.c_bound c.requires.c_value c.link-root.result c.args.s c.insert.result c.insert.new.arena c.link-root.ensures _ _ c.shape-shape.ensures.slots c.shape-shape.ensures.levels c.insert.ensures c.in_err-left.was)
+pub returns-in-Err : goal.returns-in-Err
+returns-in-Err c = put_full c.args.region.now c.requires.well_formed c.args.c c.requires.c_bound c.requires.c_value c.link-root.result c.args.s c.insert.result c.insert.new.arena c.link-root.ensures _ _ c.shape-shape.ensures.slots c.shape-shape.ensures.levels c.insert.ensures c.in-Err.is

@@ -1,20 +1,27 @@
--- `keys::range::first_bad` meets its contract: the five tests are those of the fields' ranges, so the first that fails is the first field out of range. Assumes nothing.
-use mathlib.Core.Path.{◌≡◌, ◌∙◌, ap}
-use mathlib.Core.Bool.{not}
+-- `keys::range::first_bad` meets its contract: the tests that led to a `return` say which field is the first out of range. Assumes nothing.
+use mathlib.Core.Path.{sym}
 use native.Mathlib.Omega.{arith}
-use Rattle.std.proofs.Common.{rules}
-use Rattle.std.specs.List.{position}
-use borrow.Author.Tests.{tests}
-use Rattle.std.proofs.lemmas.Iterator.{YieldsList-from_slice}
-use Rattle.std.proofs.lemmas.Iterator.Search.{position_from_yields_List}
-use Rattle.model.specs.Keys.{in_range}
 use Rattle.promises.specs.Answers.{fields}
-use Rattle.keys.proofs.Ranges.{out_at, same_tests}
+use Rattle.keys.proofs.Ranges.{out-card, out-rollover, out-folder-low, out-folder, out-frame, out-kind, out_none}
 use Rattle.keys.proofs.range.first_bad.Goals as goal
 
+pub returns-then-f-gt4095 : goal.returns-then-f-gt4095
+returns-then-f-gt4095 c = (out-card (fields c.args.f) (omega arith), omega arith)
+
+pub returns-then-f-gt7 : goal.returns-then-f-gt7
+returns-then-f-gt7 c = (out-rollover (fields c.args.f) (omega arith) (omega arith), omega arith)
+
+pub returns-then-f-lt100 : goal.returns-then-f-lt100
+returns-then-f-lt100 c = (out-folder-low (fields c.args.f) (omega arith) (omega arith) (omega arith), omega arith)
+
+pub returns-then-f-gt999 : goal.returns-then-f-gt999
+returns-then-f-gt999 c = (out-folder (fields c.args.f) (omega arith) (omega arith) (omega arith), omega arith)
+
+pub returns-then-f-gt9999 : goal.returns-then-f-gt9999
+returns-then-f-gt9999 c = (out-frame (fields c.args.f) (omega arith) (omega arith) (omega arith) (omega arith) (omega arith), omega arith)
+
+pub returns-then-f-gt1 : goal.returns-then-f-gt1
+returns-then-f-gt1 c = (out-kind (fields c.args.f) (omega arith) (omega arith) (omega arith) (omega arith) (omega arith) (omega arith), omega arith)
+
 pub returns : goal.returns
-returns c =
-    let f = fields c.args.f in
-    let e : c.position.result ≡ position not c.iter.result.rest.now = position_from_yields_List not _ _ c.position.result c.position.ensures.ran (YieldsList-from_slice c.iter.result.rest.now cc) (λ x b q k. search (rules, tests)) in
-    let t : c.iter.result.rest.now ≡ in_range f = c.iter.ensures.rest ∙ same_tests (grind arith) (grind arith) (search rules) (grind arith) (grind arith) in
-    out_at f c.position.result (e ∙ ap (position not) t)
+returns c = sym (out_none (fields c.args.f) (omega arith) (omega arith) (omega arith) (omega arith) (omega arith) (omega arith))

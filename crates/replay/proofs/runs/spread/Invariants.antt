@@ -1,6 +1,6 @@
--- Each run that fits leaves no more words than a row has.
-use Rattle.std.proofs.Common.{◌≤◌, vec_len}
+-- Each run that fits leaves fewer words than a row has.
+use Rattle.std.proofs.Common.{◌≤◌}
 use Rattle.replay.proofs.runs.spread.Given as goal
 
 abbrev pub invariant-loop-run : goal.invariant-loop-run
-invariant-loop-run l = vec_len l.words ≤ 4096
+invariant-loop-run l = l.many ≤ 4096

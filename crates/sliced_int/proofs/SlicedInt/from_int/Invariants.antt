@@ -3,4 +3,4 @@ use Rattle.sliced_int.proofs.Filling.{Filled}
 use Rattle.sliced_int.proofs.SlicedInt.from_int.Given as goal
 
 abbrev pub invariant-loop-j : goal.invariant-loop-j
-invariant-loop-j g l = Filled g.row.BYTES l.s l.x-items l.j
+invariant-loop-j l = Filled l.b l.s l.bytes l.j
