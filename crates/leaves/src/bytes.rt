@@ -29,7 +29,7 @@ fn value<const BYTES: usize>(s: u64) -> u64
 fn order<const BYTES: usize>(s: u64, t: u64) -> u64
     requires { BYTES ≤ 5 }
 {
-    match SlicedInt::from_int(s, BYTES).compare(SlicedInt::from_int(t, BYTES)) {
+    match SlicedInt::from_int(s, BYTES).compare_same_len(SlicedInt::from_int(t, BYTES)) {
         Ordering::Less => 0,
         Ordering::Equal => 1,
         Ordering::Greater => 2,

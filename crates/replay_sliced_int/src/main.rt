@@ -44,7 +44,7 @@ fn on_bytes(alloc: Global, op: u64, b: usize, line: &[u64]) -> Result<(Vec<u64>,
         }
         (3, [u, v, recorded @ ..]) => {
             let x = SlicedInt::from_int(*u, b);
-            let order = x.compare(SlicedInt::from_int(*v, b));
+            let order = x.compare_same_len(SlicedInt::from_int(*v, b));
             Ok((vec![in alloc; order_of(order)]?, recorded))
         }
         _ => Err(Stop::BadNumbers),

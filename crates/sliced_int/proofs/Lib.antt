@@ -3,3 +3,4 @@ pub mod Bytewise
 pub mod Orders
 pub mod Filling
 pub mod Taken
+pub mod Scaled

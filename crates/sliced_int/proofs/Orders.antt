@@ -47,6 +47,15 @@ means x y o e = go (dec_lt x y) (dec_lt y x)
     go (no l) (yes g) = subst (Means x y) (is_greater x y g ∙ e) g
     go (no l) (no g) = let q : x ≡ y = omega arith in subst (Means x y) (is-equal x y q ∙ e) q
 
+-- the library's comparison of two numbers
+pub ordered : (x y : ℕ) → nat_cmp x y ≡ order_of x y
+ordered x y = go (nat_cmp x y) (ranked x y (nat_cmp x y) refl)
+  where
+    go : (o : Ordering) → MatchOrdering o (x < y) (x ≡ y) (y < x) → o ≡ order_of x y
+    go Less h = is-less x y h
+    go Equal h = is-equal x y h
+    go Greater h = is_greater x y h
+
 -- two suffixes of b bytes, sliced, compare as they do themselves
 pub sliced-order : (b s t : ℕ) (x y : SlicedInt) → Sliced b s x → Sliced b t y → s < 2 ^ (8 * b) → t < 2 ^ (8 * b) → order_of (value_of x) (value_of y) ≡ order_of s t
 sliced-order b s t x y p q hs ht = rw (p.whole hs, q.whole ht)

@@ -1,9 +1,9 @@
 // A suffix as bytes, the most significant first (src/sliced_int.rs of the Rust).
 #![tactic(auto)]
 
-ghost use Rattle.std.specs.Prelude.{◌≡◌, ◌<◌, ◌≤◌, get_or};
+ghost use Rattle.std.specs.Prelude.{◌≡◌, ◌<◌, ◌≤◌, ◌*◌, ◌^◌, get_or, length, min};
 ghost use Rattle.region.specs.Tries.{byte_of};
-ghost use Rattle.sliced_int.specs.Sliced.{Sliced, value_of};
+ghost use Rattle.sliced_int.specs.Sliced.{Sliced, number_in, value_of};
 ghost use Rattle.sliced_int.specs.Ordered.{order_of};
 
 use std::cmp::Ordering;
@@ -15,6 +15,13 @@ pub fn byte(s: u64, b: usize, j: usize) -> usize
 {
     let behind = b - 1 - j;
     ((s >> (8 * behind)) & 255) as usize
+}
+
+// Two arrays of one length, as the numbers that their bytes make: the first byte that differs decides. They may be longer than a suffix.
+pub fn compare_bytes<const BYTES: usize>(mine: [u8; BYTES], theirs: [u8; BYTES]) -> Ordering
+    ensures { result ≡ order_of (number_in mine.entry (length mine.entry)) (number_in theirs.entry (length theirs.entry)) }
+{
+    mine.cmp(&theirs)
 }
 
 // The first len of the bytes are the suffix, which has at most 40 bits: `b` is known when a call comes, so len is a number and no const parameter.
@@ -54,11 +61,36 @@ impl SlicedInt {
         self.bytes[j] as usize
     }
 
-    // From the most significant byte: the first that differs decides.
+    // As numbers, whatever the lengths are: one above 5 says that zero bytes stand behind the five, and those behind both decide nothing.
     pub fn compare(self, other: Self) -> Ordering
+        ensures { result ≡ order_of (value_of self) (value_of other) }
+    {
+        if self.len <= 5 && other.len == self.len {
+            return self.compare_same_len(other);
+        }
+        let mine = self.len.saturating_sub(5);
+        let theirs = other.len.saturating_sub(5);
+        let number = self.front(mine.saturating_sub(theirs));
+        number.cmp(&other.front(theirs.saturating_sub(mine)))
+    }
+
+    // Of one length, from the most significant byte: the first that differs decides.
+    pub fn compare_same_len(self, other: Self) -> Ordering
         requires { (self.len ≤ 5) × (other.len ≡ self.len) }
         ensures { result ≡ order_of (value_of self) (value_of other) }
     {
         self.bytes[..self.len].cmp(&other.bytes[..other.len])
     }
+
+    // The number that the bytes make, with so many zero bytes behind it; five stand for more, since beside a number of five bytes they decide already.
+    fn front(self, zeros: usize) -> u128
+        ensures { result ≡ number_in self.bytes (min self.len 5) * 2 ^ (8 * min zeros 5) }
+    {
+        let len = self.len.min(5);
+        let n = Self { len, ..self }.to_int();
+        u128::from(n) << (8 * zeros.min(5))
+    }
 }
+
+#[cfg(test)]
+mod tests;
